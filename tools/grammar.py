@@ -1,15 +1,24 @@
-"""A second reader of packets, for `damaged`: from octets it gives a packet, or the name of their first fault.
+"""An independent packet reader, for `damaged`. The function `read` decodes a packet, or raises its first fault.
 
-Its tables follow the NDN Packet Format 0.3 and NDNLPv2 and, where these two leave a choice,
-`docs/DECISIONS.md` ("The profile"). It shares no code with the node's reader.
+The tables follow NDN Packet Format 0.3 and NDNLPv2. Where these standards leave a choice, the tables follow
+`docs/DECISIONS.md` ("The profile"). The module shares no code with the node's reader.
 
-Faults are looked for in the following order. The octets that arrive as a whole: more than 9,000 octets
-(TooLong); an outermost element that cannot be read (Tlv); octets after this element, or a type other than
-Interest, Data and link packet (BadField); an Interest or a Data of more than 8,800 octets (TooLong). Then
-the elements inside, from left to right. The first element of an Interest or a Data has to be a Name
-(NoName). Each element has to be readable (Tlv), has to be allowed at its place (CriticalUnknown, in a link
-packet LpField), and has to have a right value. At the end come missing fields (NoNonce in an Interest,
-BadField in a Data or a Nack), and in an Interest the digest of the parameters.
+`read` checks the octets in this order:
+
+1. There are at most 9,000 octets (TooLong).
+2. The outermost element can be read (Tlv). No octets follow it, and it is an Interest, a Data or a link packet
+   (BadField).
+3. An Interest or a Data has at most 8,800 octets (TooLong).
+4. An Interest or a Data begins with a Name, and the Name of an Interest is not empty (NoName). If the first element
+   cannot be read, the fault is Tlv.
+5. The elements inside, from left to right: each element can be read (Tlv), is allowed at its place (CriticalUnknown, or
+   LpField in a link packet), and has a valid value. A missing SignatureType is reported at the end of its SignatureInfo
+   (BadField).
+6. No other field is missing (NoNonce in an Interest, BadField in a Data). In a link packet, a Nack needs a Fragment
+   (BadField).
+7. In an Interest, the digest of the parameters is valid (DigestMissing, DigestWrong, DigestWithout).
+
+The value of a Fragment is checked by the steps 2 to 7. It must be an Interest or a Data, and in a Nack an Interest.
 """
 
 import collections
@@ -22,7 +31,7 @@ IMPLICIT_DIGEST, PARAMETERS_DIGEST = 1, 2
 
 
 class Fault(Exception):
-    """Why octets are no packet. Its text is the one that the node prints after `dropped Malformed`."""
+    """The octets are not a packet. The message is the FAULT that the node prints after `dropped Malformed`."""
 
 
 # Numbers and elements.
@@ -31,7 +40,7 @@ Element = collections.namedtuple("Element", "kind value start end")
 
 
 def number(octets, at):
-    """The VAR-NUMBER that begins at a place, and the place after it."""
+    """Reads the VAR-NUMBER at the offset `at`. Returns the number and the offset after it."""
     if at >= len(octets):
         raise Fault("Tlv Truncated")
     first = octets[at]
@@ -48,7 +57,7 @@ def number(octets, at):
 
 
 def element(octets, start=0):
-    """The element that begins at a place."""
+    """Reads the element at the offset `start`."""
     kind, at = number(octets, start)
     if kind == 0:
         raise Fault("Tlv TypeZero")
@@ -61,7 +70,7 @@ def element(octets, start=0):
 
 
 def elements(octets):
-    """The elements, one after the other. The fault of an element is raised only when its turn comes."""
+    """Yields the elements from left to right. Raises the fault of an element only when it reaches this element."""
     at = 0
     while at < len(octets):
         one = element(octets, at)
@@ -69,7 +78,7 @@ def elements(octets):
         at = one.end
 
 
-# Readers of the values of fields. Each of them returns what the value means, or raises a fault.
+# Readers for the values of fields. A reader takes the octets of a value, and returns the decoded value or raises Fault.
 
 
 def anything(value):
@@ -77,6 +86,8 @@ def anything(value):
 
 
 def octets_of(length):
+    """Returns a reader that accepts exactly `length` octets."""
+
     def read(value):
         if len(value) != length:
             raise Fault("BadField")
@@ -86,14 +97,15 @@ def octets_of(length):
 
 
 def integer(value):
-    """A NonNegativeInteger, in its shortest form or in a longer one."""
+    """Reads a NonNegativeInteger, which need not be in its shortest form."""
     if len(value) not in (1, 2, 4, 8):
         raise Fault("BadField")
     return int.from_bytes(value, "big")
 
 
 def components(value):
-    """The components of a name, each as its whole element. Any fault in them, and a 65th one, is BadField."""
+    """Reads a name, and returns the tuple of its components, each a complete element. The fault is BadField if a
+    component is invalid, or if there are more than 64 components."""
     found = []
     try:
         for one in elements(value):
@@ -108,7 +120,7 @@ def components(value):
 
 
 def locator(value):
-    """The name of a key, or None if the locator is not exactly one readable Name. No locator is a fault."""
+    """Reads a KeyLocator. Returns its name, or None if the value is not exactly one valid Name. Never raises Fault."""
     try:
         one = element(value)
         if one.kind == NAME and one.end == len(value):
@@ -119,12 +131,14 @@ def locator(value):
 
 
 class Fields:
-    """Fields in a fixed order, each at most once. `table` has their types in this order, and a reader for
-    the value of each.
+    """A list of fields in a fixed order, each of them at most once.
 
-    `after` maps a type to the type of the field that must have come before it. The types `needed` must be
-    there. An element whose type is not in the table after that of the last field is no field. It is ignored
-    if its type is even and at least 32, or is among `ignored`. Otherwise it is CriticalUnknown.
+    `table` maps the types of the fields, in this order, to the readers for their values. `after` maps a type to the
+    type of a field that must precede it. `needed` has the types of the mandatory fields.
+
+    An element is a field if its type is in the table, after the type of the last field, and if the field that `after`
+    names has been read. Any other element is ignored if its type is in `ignored`, or is even and at least 32. Otherwise
+    the fault is CriticalUnknown.
     """
 
     def __init__(self, table, after=(), ignored=(), needed=()):
@@ -132,7 +146,8 @@ class Fields:
         self.order = {kind: place for place, kind in enumerate(table)}
 
     def read(self, octets):
-        """Two dictionaries by type, for the fields that are there: their values, and where each begins and ends."""
+        """Reads fields. Returns two dictionaries, which map the type of each field that is present to its value, and to
+        the offsets of its start and its end. The fault is BadField if a mandatory field is missing."""
         found, places, last = {}, {}, -1
         for one in elements(octets):
             if self.comes_next(one.kind, last, found):
@@ -146,10 +161,12 @@ class Fields:
         return found, places
 
     def comes_next(self, kind, last, found):
+        """Returns whether an element of the type `kind` is a field, if `last` is the index of the last field in the
+        table, and `found` has the fields before the element."""
         return self.order.get(kind, -1) > last and (kind not in self.after or self.after[kind] in found)
 
     def value(self, octets):
-        """Reads the value of a field that holds fields: the values of these inner fields, by type."""
+        """The reader for a field that contains fields. Returns the values of these inner fields, by type."""
         return self.read(octets)[0]
 
 
@@ -175,7 +192,7 @@ OF_INTEREST = Fields(
 OF_DATA = Fields({NAME: components, 20: META_INFO.value, 21: anything, 22: SIGNATURE_INFO.value, 23: anything}, needed=(22, 23))
 OF_NACK = Fields({801: integer})
 
-# Packets. A name is the tuple of its components, each a whole element.
+# Packets. A name is the tuple of its components, each a complete element.
 
 Signature = collections.namedtuple("Signature", "kind key time number value covered")
 Interest = collections.namedtuple("Interest", "name can_be_prefix must_be_fresh nonce lifetime hop_limit_at signature whole")
@@ -185,15 +202,17 @@ NO_NACK = None
 
 
 def kind_of(component):
+    """Returns the type of a component."""
     return element(component).kind
 
 
 def hop_limit(interest):
-    """The HopLimit of an Interest, or None."""
+    """Returns the HopLimit of an Interest, or None if it has none."""
     return None if interest.hop_limit_at is None else interest.whole[interest.hop_limit_at]
 
 
 def begins_with_name(value, may_be_empty):
+    """Raises Fault if the value of a packet does not begin with a Name, or if this Name is empty and must not be."""
     if not value:
         raise Fault("NoName")
     first = element(value)
@@ -202,10 +221,12 @@ def begins_with_name(value, may_be_empty):
 
 
 def signature_of(info, value, covered):
+    """Returns the Signature with the fields `info` of a SignatureInfo."""
     return Signature(info[27], info.get(28), info.get(40), info.get(42), value, covered)
 
 
 def read_interest(outer, whole):
+    """Decodes an Interest. `outer` is its outermost element, and `whole` has all its octets."""
     begins_with_name(outer.value, False)
     found, places = OF_INTEREST.read(outer.value)
     if 10 not in found:
@@ -222,8 +243,9 @@ def read_interest(outer, whole):
         raise Fault("DigestWithout")
     signature = None
     if 46 in found:
-        # A signature covers all components but the digest, and the octets from the parameters up to the
-        # signature value. If the digest is not the last component, nothing counts as covered (None).
+        # The signature covers the components of the name without the digest, and the octets from the start of the
+        # ApplicationParameters to the start of the InterestSignatureValue. If the digest is not the last component,
+        # `covered` is None.
         parts = outer.value[places[PARAMETERS][0] : places[46][0]]
         covered = b"".join(name[:-1]) + parts if kind_of(name[-1]) == PARAMETERS_DIGEST else None
         signature = signature_of(found[44], found[46], covered)
@@ -235,6 +257,7 @@ def read_interest(outer, whole):
 
 
 def read_data(outer, whole):
+    """Decodes a Data. `outer` is its outermost element, and `whole` has all its octets."""
     begins_with_name(outer.value, True)
     found, places = OF_DATA.read(outer.value)
     covered = outer.value[places[NAME][0] : places[23][0]]
@@ -243,7 +266,8 @@ def read_data(outer, whole):
 
 
 def packet_of(octets, kinds):
-    """The packet, of one of these types, that the octets are exactly. A link packet is returned as an element."""
+    """Decodes octets that must be exactly one packet of one of the types `kinds`. Returns an Interest or a Data, or the
+    outermost element of a link packet."""
     outer = element(octets)
     if outer.end != len(octets) or outer.kind not in kinds:
         raise Fault("BadField")
@@ -255,13 +279,15 @@ def packet_of(octets, kinds):
 
 
 def token_value(value):
+    """Reads a PIT token, which has 1 to 32 octets."""
     if not 1 <= len(value) <= 32:
         raise Fault("LpField")
     return value
 
 
 def at_most(limit):
-    """Reads FragIndex or FragCount: a number above the limit says that the Fragment is only a part of a packet."""
+    """Returns a reader for FragIndex or FragCount. A number above the limit means that the Fragment is only a part of a
+    packet: the fault is Fragmented."""
 
     def read(value):
         if integer(value) > limit:
@@ -275,6 +301,7 @@ HEADERS = {81: anything, 82: at_most(0), 83: at_most(1), PIT_TOKEN: token_value,
 
 
 def read_link(outer):
+    """Decodes a link packet, whose outermost element is `outer`."""
     found, packet = {}, None
     for one in elements(outer.value):
         if packet is not None or one.kind in found:
@@ -292,8 +319,9 @@ def read_link(outer):
 
 
 def read(octets):
-    """What arrived: the packet, or None in an idle link packet; its PIT token or None; the reason of a Nack, or
-    NO_NACK."""
+    """Decodes the octets that arrive on a face. Returns a Frame. Its `packet` is an Interest or a Data, or None for an
+    idle link packet. Its `token` is the PIT token or None. Its `reason` is the NackReason, which is 0 if a Nack has
+    none, or NO_NACK. Raises Fault if the octets are not a packet."""
     if len(octets) > LONGEST_LINK:
         raise Fault("TooLong")
     found = packet_of(octets, (INTEREST, DATA, LINK))
@@ -304,23 +332,24 @@ def read(octets):
 
 
 def begins(name, prefix):
+    """Returns whether `prefix` is a prefix of the name."""
     return name[: len(prefix)] == prefix
 
 
 def order(name):
-    """The sort key that puts names into canonical order."""
+    """Returns the key that sorts names into canonical order."""
     parts = (element(part) for part in name)
     return [(part.kind, len(part.value), part.value) for part in parts]
 
 
 def full_name(data):
-    """The name of a Data, and after it the implicit digest of this Data as a component."""
+    """Returns the full name of a Data: its name, followed by its implicit digest."""
     digest = hashlib.sha256(data.whole).digest()
     return data.name + (bytes((IMPLICIT_DIGEST, 32)) + digest,)
 
 
 def answers(data, name, can_be_prefix):
-    """Whether a Data answers an Interest with this name and this CanBePrefix; freshness is not looked at."""
+    """Returns whether a Data matches an Interest with this name and this CanBePrefix. MustBeFresh is not considered."""
     if name in (data.name, full_name(data)):
         return True
     return can_be_prefix and begins(full_name(data), name)

@@ -1,10 +1,14 @@
-"""A plain node, for `damaged`: what the documents say of an event, with nothing but dictionaries and lists.
+"""A simple model of a node, for `damaged`. It computes the answer that the documents require for an event.
 
-It follows `docs/SCRIPTS.md` ("What the node does with a packet"), `docs/MANAGEMENT.md` and `docs/RULES.md`
-as far as the cases of `damaged` need it. The only strategy is best-route, the only commands are those on next
-hops and of the repository, and neither the cache nor the table of pending Interests has a limit. For a face
-that does not open, another allowed command, or an Interest for the list of strategies it raises `Beyond`.
-Packets are read by `grammar`.
+The model follows `docs/SCRIPTS.md` ("What the node does with a packet"), `docs/MANAGEMENT.md` and `docs/RULES.md`, as
+far as the cases of `damaged` need it. It keeps its state in dictionaries and lists, and reads packets with `grammar`.
+
+- The only strategy is best-route.
+- The only commands are `fib/add-nexthop`, `fib/remove-nexthop` and those of the repository.
+- The cache and the PIT have no limits.
+
+The model raises `Beyond` for a face that cannot be opened, for an allowed command with any other verb, and for an
+Interest for the list of strategies.
 """
 
 import hashlib
@@ -22,18 +26,19 @@ SEGMENT = 4096
 
 
 class Beyond(Exception):
-    """The cases need something that this model does not have."""
+    """The model does not support the event."""
 
 
 class Rule:
-    """A rule for the names under a prefix, with at most one checker. The checker asks for an HMAC of `key`, or for a
-    SHA-256 if `key` is None."""
+    """A rule for names under `prefix`. If `checks` is true, the rule has one checker, which requires an HMAC under
+    `key`, or a SHA-256 digest if `key` is None. Otherwise the rule has no checker, and denies each packet."""
 
     def __init__(self, identity, kind, prefix=(), key=None, checks=True):
         self.identity, self.kind, self.prefix, self.key, self.checks = identity, kind, prefix, key, checks
 
     def reason(self, keys, signature):
-        """Why the rule denies a packet with this signature, or None if it allows the packet."""
+        """Returns the reason for which the rule denies a packet with this signature, or None if it allows the packet.
+        `keys` maps the names of the known keys to their octets."""
         if not self.checks:
             return "KeyLocator"
         if signature.kind != (0 if self.key is None else 4):
@@ -50,26 +55,31 @@ class Rule:
 
 
 class Entry:
-    """A PIT entry, for one name and flags: the faces that ask (in-records), and the faces that were asked
-    (out-records)."""
+    """A PIT entry, which is for one name and one combination of flags. `askers` has the in-records by face, and `asked`
+    has the out-records by face."""
 
     def __init__(self):
         self.askers, self.asked = {}, {}
 
 
 class Asker:
+    """An in-record: the Nonce, octets, deadline and PIT token of the Interest that arrived on the face."""
+
     def __init__(self, nonce, whole, deadline, token):
         self.nonce, self.whole, self.deadline, self.token = nonce, whole, deadline, token
 
 
 class Asked:
+    """An out-record: the Nonce of the Interest that was sent to the face, the moment at which it was sent, and the
+    reason of the Nack that came back, or None."""
+
     def __init__(self, nonce, moment):
         self.nonce, self.moment, self.reason = nonce, moment, None
 
 
 def wrapped(packet, token, reason=None):
-    """What goes back to a face: the bare packet, or a link packet with the token of the face's Interest, if it had
-    one, and with the reason of a Nack, if it is one."""
+    """Returns the octets to send to a face. `token` is the PIT token of the face's Interest, or None. `reason` is the
+    reason of a Nack, or None for a Data. If both are None, the packet is sent bare, otherwise in a link packet."""
     if token is None and reason is None:
         return packet
     headers = [] if token is None else [p.tlv(98, token)]
@@ -79,23 +89,25 @@ def wrapped(packet, token, reason=None):
 
 
 def made(name, content, between=b""):
-    """A Data that the node makes. `between` is its MetaInfo, if any."""
+    """Encodes a Data that the node makes, signed with a SHA-256 digest. `between` is the encoded MetaInfo, or empty."""
     covered = p.tlv(7, *name) + between + p.tlv(21, content) + p.tlv(22, p.integer(27, 0))
     return p.tlv(6, covered, p.tlv(23, hashlib.sha256(covered).digest()))
 
 
 def status_content(status, text, body=b""):
+    """Encodes the Content of the node's reply to a command. `body` is an encoded element, or empty."""
     return p.tlv(101, p.integer(102, status), p.tlv(103, text.encode()), body)
 
 
 def repository_content(status, text, count=0):
+    """Encodes the Content of the repository's reply to a command."""
     return p.tlv(207, p.integer(208, status), p.tlv(103, text.encode()), p.integer(132, count))
 
 
 def first_fields(component, kind):
-    """The fields of a command's parameters: for each type, the value of the first field of this type. The parameters
-    have to be a generic component that holds exactly one element of type `kind`, which holds the fields; anything
-    else is a fault."""
+    """Reads the parameters of a command. Returns a dictionary that maps each type to the value of the first field of
+    this type. The component must be generic, and its value must be exactly one element of the type `kind`, which
+    contains the fields. Otherwise raises Fault."""
     if g.kind_of(component) != p.GENERIC:
         raise g.Fault("BadField")
     value = g.element(component).value
@@ -109,16 +121,27 @@ def first_fields(component, kind):
 
 
 class Node:
+    """The state of the node.
+
+    `now` is the node's time, and `up` maps the open faces to their scopes. `version` is the version of the lists.
+    `hops` maps a name to the costs of its next hops, by face. `pending` maps a name and its flags to a PIT entry.
+    `cached` has pairs of a cached Data and the moment at which it arrived. `last` maps a signer to the time of its last
+    allowed command, and to the last sequence number, if any, of its allowed commands. `wants` maps the name and the
+    CanBePrefix of a pending insert to its deadline. `objects` maps full names to stored Data.
+    """
+
     def __init__(self, rules, keys):
         self.rules, self.keys = rules, keys
         self.now, self.up, self.version = 0, {}, 0
         self.hops, self.pending, self.cached, self.last = {}, {}, [], {}
         self.wants, self.objects = {}, {}
 
-    # Events. Those of a script return a verdict and what is sent: a list of pairs of a face and octets.
+    # Events. `opens`, `closes`, `takes_rules` and `receives` return the verdict, and the list of the packets that the
+    # node sends. Each packet is a pair of a face and octets.
 
     def passes(self, moment):
-        """Advances the time, and removes the pending Interests and the wants that have expired."""
+        """Advances the node's time to `moment` if `moment` is later. Removes the in-records and the pending inserts
+        that have expired, and the PIT entries that then have no in-records."""
         self.now = max(self.now, moment)
         for entry in self.pending.values():
             entry.askers = {face: one for face, one in entry.askers.items() if one.deadline > self.now}
@@ -126,6 +149,7 @@ class Node:
         self.sweep()
 
     def sweep(self):
+        """Removes the PIT entries without in-records."""
         self.pending = {key: entry for key, entry in self.pending.items() if entry.askers}
 
     def opens(self, face, scope, moment):
@@ -196,6 +220,7 @@ class Node:
         return self.forward(key, face, interest, token)
 
     def loops(self, entry, face, nonce):
+        """Returns whether an Interest with this Nonce, which arrives on `face`, loops."""
         own = entry.askers.get(face)
         if own is not None and own.nonce == nonce:
             return False
@@ -203,8 +228,8 @@ class Node:
         return nonce in others + [one.nonce for one in entry.asked.values()]
 
     def found(self, name, can_be_prefix, must_be_fresh):
-        """The octets of a cached Data that answers, or None. If several answer, the one with the least full name
-        counts."""
+        """Returns the octets of a cached Data that answers, or None. If several Data answer, chooses the one whose full
+        name is first in canonical order."""
         best = None
         for data, came in self.cached:
             fresh = not must_be_fresh or self.now < min(came + data.freshness, LAST_MOMENT)
@@ -214,24 +239,26 @@ class Node:
         return None if best is None else best.whole
 
     def stored(self, name, can_be_prefix):
-        """The octets of a stored Data that answers, or None. If several answer, the one with the least full name
-        counts."""
+        """Returns the octets of a stored Data that answers, or None. If several Data answer, chooses the one whose full
+        name is first in canonical order."""
         found = [full for full, data in self.objects.items() if g.answers(data, name, can_be_prefix)]
         return self.objects[min(found, key=g.order)].whole if found else None
 
     def longest(self, name):
-        """The next hops of the longest prefix of a name that has next hops, as costs by face; none if no prefix has
-        some."""
+        """Returns the next hops of the longest prefix of the name that has next hops. The result maps faces to costs,
+        and is empty if no prefix has next hops."""
         return next((self.hops[name[:n]] for n in range(len(name), -1, -1) if name[:n] in self.hops), {})
 
     def eligible(self, name, asker, local_alone):
-        """The next hops that an Interest of this name may go to: pairs of a cost and a face, sorted by cost and then
-        by face."""
+        """Returns the next hops to which an Interest with this name may be sent, as pairs of a cost and a face, sorted.
+        Leaves out the face `asker`. Leaves out far faces if `local_alone` is true or the name is under /localhost."""
         local_alone = local_alone or g.begins(name, LOCALHOST)
         hops = sorted((cost, hop) for hop, cost in self.longest(name).items())
         return [(cost, hop) for cost, hop in hops if hop != asker and not (local_alone and self.up[hop] == "far")]
 
     def forward(self, key, face, interest, token):
+        """Forwards an Interest, or sends it back in a Nack if it has no eligible next hop. `key` is its name and
+        flags."""
         entry = self.pending.get(key, Entry())
         limit = g.hop_limit(interest)
         eligible = self.eligible(key[0], face, limit == 1)
@@ -251,6 +278,8 @@ class Node:
         return "passed", [(chosen, bytes(whole))]
 
     def best_route(self, entry, eligible):
+        """Returns the next hop that best-route chooses, or None if an Interest was sent for this PIT entry less than 10
+        milliseconds ago."""
         if any(self.now - one.moment < 10 for one in entry.asked.values()):
             return None
         new = [hop for _, hop in eligible if hop not in entry.asked]
@@ -331,9 +360,11 @@ class Node:
         return f"allowed {status} {rule.identity}", reply(status, text, body)
 
     def signer(self, signature):
+        """Returns the name of the key of an HMAC, or None for a SHA-256 digest."""
         return None if signature.kind == 0 else signature.key
 
     def replay(self, signature):
+        """Returns `Replay` if a command with this signature is not fresh, otherwise None."""
         time, number = self.last.get(self.signer(signature), (None, None))
         late = abs(signature.time - self.now) > CLOCKS_DIFFER
         old = time is not None and signature.time <= time
@@ -341,8 +372,8 @@ class Node:
         return "Replay" if late or old or again else None
 
     def apply(self, asker, named):
-        """Applies a command on next hops. Returns the status and the text of the reply, and its element 104, if it
-        has one."""
+        """Applies an allowed command to the node. Returns the status and the text of the reply, and the encoded
+        ControlParameters of the reply, which are empty if the status is not 200."""
         bad = (400, "bad parameters", b"")
         if len(named) < 4:
             return bad
@@ -375,8 +406,8 @@ class Node:
         return 200, "OK", p.tlv(104, p.tlv(7, *name), p.integer(105, hop), p.integer(106, cost))
 
     def repository(self, named, nonce):
-        """Applies a command of the repository. Returns the status, the text and the count of the reply, and the
-        Interest, if any, that goes out for the wanted Data, in a list with its face."""
+        """Applies an allowed command to the repository. Returns the status, the text and the count of the reply, and a
+        list. The list has the face and the octets of the Interest that the node sends for the Data, or is empty."""
         bad = (400, "bad parameters", 0, [])
         if len(named) != 3:
             return bad
@@ -410,8 +441,9 @@ class Node:
     # The list of routes.
 
     def segment_asked(self, interest):
-        """The version of the list of routes, or None for the present version, and the number of the segment that an
-        Interest asks for. None instead of both if the Interest asks for no segment of this list."""
+        """Returns the version of the list of routes for which an Interest asks, or None for the current version, and
+        the number of the segment. Returns None instead of the pair if the Interest does not ask for a segment of this
+        list. Raises Beyond if the Interest's name is under the name of the list of strategies."""
         name, of_routes = interest.name, p.name("/localhost/nfd/fib/list")
         if g.begins(name, p.name("/localhost/nfd/strategy-choice/list")):
             raise Beyond("the list of strategies")
@@ -430,6 +462,8 @@ class Node:
         return (numbers[0] if numbers else None), 0
 
     def segment(self, version, k):
+        """Returns the octets of segment `k` of the list of routes. Returns None if the list does not have this version
+        or this segment."""
         if version not in (None, self.version):
             return None
         text = b""

@@ -1,8 +1,8 @@
-"""Writes packets, rules and the lines of key files, for the scripts of this folder.
+"""Encodes packets, rules and the lines of key files, for the other programs of this folder.
 
-Packets are written as the NDN Packet Format 0.3 and NDNLPv2 define them, commands as `docs/MANAGEMENT.md`
-has them, rules as `docs/RULES.md` has them, and keys as `docs/SCRIPTS.md` has them. A name is a tuple of
-components, each given as its whole element. Nothing here comes from a node.
+NDN Packet Format 0.3 and NDNLPv2 define the packets, `docs/MANAGEMENT.md` defines the commands, and `docs/RULES.md`
+defines the rules and the key files. A name is a tuple of components, and each component is a complete TLV element. The
+module uses no code and no output of a node.
 """
 
 import hashlib
@@ -18,7 +18,7 @@ STRATEGIES = "/localhost/nfd/strategy/"
 
 
 def var_number(n):
-    """A VAR-NUMBER in its shortest form."""
+    """Encodes n as a VAR-NUMBER in its shortest form."""
     if n < 253:
         return bytes((n,))
     if n < 0x10000:
@@ -29,13 +29,14 @@ def var_number(n):
 
 
 def tlv(kind, *parts):
-    """An element."""
+    """Encodes an element of the type `kind`. Its value is the concatenation of `parts`."""
     value = b"".join(parts)
     return var_number(kind) + var_number(len(value)) + value
 
 
 def integer(kind, n):
-    """An element that holds a NonNegativeInteger in its shortest form."""
+    """Encodes an element whose value is n, as a NonNegativeInteger in its shortest form. Raises ValueError if n has
+    more than 64 bits."""
     for width in (1, 2, 4, 8):
         if n < 1 << 8 * width:
             return tlv(kind, n.to_bytes(width, "big"))
@@ -43,26 +44,30 @@ def integer(kind, n):
 
 
 def name(text):
-    """The name of a URI in which each component is generic and has no escape."""
+    """Returns the name that a URI stands for. All components must be generic, and must not contain escapes."""
     return tuple(tlv(GENERIC, part.encode()) for part in text.split("/") if part)
 
 
 def words(*octets):
-    """The name whose generic components have these values."""
+    """Returns the name that consists of generic components with these values."""
     return tuple(tlv(GENERIC, part) for part in octets)
 
 
 class Key:
-    """A key that signs with HMAC: its name, as a URI and as components, and its octets."""
+    """An HMAC key: its name, as a URI and as a tuple of components, and its octets."""
 
     def __init__(self, uri, octets):
         self.uri, self.name, self.octets = uri, name(uri), octets
 
     def line(self):
+        """Returns the line of the key in a key file."""
         return f"{self.uri} {self.octets.hex()}\n"
 
 
 def signature_info(kind, key, time=None, number=None):
+    """Encodes a SignatureInfo (`kind` 22) or an InterestSignatureInfo (`kind` 44). The signature type is
+    HmacWithSha256, or DigestSha256 if `key` is None. `time` is the SignatureTime, and `number` is the
+    SignatureSeqNum."""
     parts = [integer(27, 0 if key is None else 4)]
     if key is not None:
         parts.append(tlv(28, tlv(7, *key.name)))
@@ -74,14 +79,15 @@ def signature_info(kind, key, time=None, number=None):
 
 
 def tag(key, covered):
-    """The value of a signature: HMAC, or SHA-256 if the key is None."""
+    """Returns the signature value over `covered`: the HMAC under the key, or the SHA-256 digest if `key` is None."""
     if key is None:
         return hashlib.sha256(covered).digest()
     return hmac.digest(key.octets, covered, "sha256")
 
 
 def interest(of, nonce, can_be_prefix=False, must_be_fresh=False, lifetime=None, hop_limit=None, extra=b""):
-    """An Interest; `extra` stands between its flags and its Nonce, as a ForwardingHint does."""
+    """Encodes an unsigned Interest. `extra` is inserted between the flags and the Nonce, where a ForwardingHint has its
+    place."""
     return tlv(
         5,
         tlv(7, *of),
@@ -95,7 +101,8 @@ def interest(of, nonce, can_be_prefix=False, must_be_fresh=False, lifetime=None,
 
 
 def data(of, content=b"", freshness=None, key=None, wrong=False):
-    """A Data. With `wrong`, one bit of its signature value is inverted."""
+    """Encodes a Data, signed with `key`, or with a SHA-256 digest if `key` is None. With `wrong`, one bit of the
+    signature value is inverted."""
     covered = tlv(7, *of)
     if freshness is not None:
         covered += tlv(20, integer(25, freshness))
@@ -107,7 +114,8 @@ def data(of, content=b"", freshness=None, key=None, wrong=False):
 
 
 def command(of, nonce, key, time, number=None, wrong=False):
-    """A signed Interest. Its name is `of` and then the digest of its parameters. `wrong` is as in `data`."""
+    """Encodes a signed Interest with empty ApplicationParameters. Its name is `of`, followed by the digest of the
+    parameters. `key` and `wrong` are as in `data`; `time` and `number` are as in `signature_info`."""
     later = tlv(36) + signature_info(44, key, time, number)
     value = tag(key, b"".join(of) + later)
     if wrong:
@@ -118,7 +126,8 @@ def command(of, nonce, key, time, number=None, wrong=False):
 
 
 def node_name(verb, of=None, face=None, cost=None, strategy=None, count=None, origin=None, flags=None, expires=None):
-    """The name of a command of the node, with its parameters. `verb` is for example `fib/add-nexthop`."""
+    """Returns the name of a command to the node, including the ControlParameters, but without a digest. `verb` has the
+    module and the verb, for example `fib/add-nexthop`. Parameters that are None are left out."""
     fields = [] if of is None else [tlv(7, *of)]
     for kind, value in ((105, face), (111, origin), (106, cost), (108, flags)):
         if value is not None:
@@ -132,7 +141,7 @@ def node_name(verb, of=None, face=None, cost=None, strategy=None, count=None, or
 
 
 def repository_name(verb, of, can_be_prefix=False, lifetime=None, prefix="/repo"):
-    """The name of a command of the repository, with its parameters."""
+    """Returns the name of a command to the repository, including its parameters, but without a digest."""
     fields = [tlv(7, *of)]
     if can_be_prefix:
         fields.append(tlv(33))
@@ -142,24 +151,25 @@ def repository_name(verb, of, can_be_prefix=False, lifetime=None, prefix="/repo"
 
 
 def link(packet, *headers):
-    """A link packet that holds a packet."""
+    """Encodes a link packet with the given header fields and with `packet` as its Fragment."""
     return tlv(100, *headers, tlv(80, packet))
 
 
 def with_token(packet, token):
-    """A link packet that holds a packet and a PIT token."""
+    """Encodes a link packet with a PIT token and with `packet` as its Fragment."""
     return link(packet, tlv(PIT_TOKEN, token))
 
 
 def nack(reason, of, *headers):
-    """A link packet with these header fields, then a Nack with this reason, and then the Interest `of`."""
+    """Encodes a link packet with the given header fields, followed by a Nack field with `reason`, and with the Interest
+    `of` as its Fragment."""
     return link(of, *headers, tlv(800, integer(801, reason)))
 
 
 def rule(identity, kind, prefix=None, key=None, hierarchical=False):
-    """The text of a rule with at most one filter, for names under `prefix`, and with one checker. The checker is
-    hierarchical (an HMAC of a key above the name) if `hierarchical` is set. Otherwise it asks for an HMAC of
-    `key`, or for a SHA-256 digest if `key` is None."""
+    """Returns the text of a rule with one checker. `identity` is the rule's `id`, and `kind` is `interest` or `data`.
+    The rule applies to names under `prefix`, or to all names if `prefix` is None. The checker is hierarchical if
+    `hierarchical` is set. Otherwise it requires an HMAC under `key`, or a SHA-256 digest if `key` is None."""
     lines = ["rule {", f"  id {identity}", f"  for {kind}"]
     if prefix is not None:
         lines += ["  filter {", "    type name", f"    name {prefix}", "    relation is-prefix-of", "  }"]

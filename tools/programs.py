@@ -1,4 +1,7 @@
-"""Programs under test, for the scripts of this folder: how they are started, fed, watched and ended."""
+"""Starts the programs under test, writes scripts to nodes, checks the verdicts, and stops the programs.
+
+The programs damaged, dearest, flood, misuse, refused and soak share this module.
+"""
 
 import hashlib
 import os
@@ -7,26 +10,28 @@ import subprocess
 import sys
 import threading
 
-# The kernel counts resident pages separately for each processor, in batches of 32 or more, and adds the
-# counts up later. With batches of 32, a figure on four processors may be off by 4 x 32 pages of 4 KiB: 512 KiB.
+# The error that the checks allow for a measured size of resident memory, in KiB. Each processor counts the pages of a
+# process separately, and adds its count to the total in batches of 32 or more pages. With batches of 32 pages of 4 KiB,
+# the total on four processors may be wrong by 4 x 32 x 4 KiB, which is 512 KiB.
 COUNTING_KIB = 512
 
-# The C library keeps much of the memory that a program frees. With these environment variables it gives
-# freed memory back at once where it can, so that the resident memory is close to what the program holds.
+# The C library keeps much of the memory that a program frees. With these environment variables it returns freed
+# memory to the system at once where it can, so that the resident memory is close to the memory in use.
 GIVES_BACK = {"MALLOC_TRIM_THRESHOLD_": "0", "MALLOC_TOP_PAD_": "0"}
 
 
 class Wrong(Exception):
-    """Something did not hold."""
+    """A check failed."""
 
 
 def words_of(text):
-    """The words of a command line that is given as one text."""
+    """Splits a command line into its arguments, as a shell does."""
     return shlex.split(text)
 
 
 def resident(process, field="VmRSS"):
-    """The resident memory of a process in KiB; with the field VmHWM, the greatest so far."""
+    """Returns the resident memory of a process in KiB, or with the field VmHWM its maximum so far. Raises Wrong if the
+    status of the process does not have the field, as after the end of the process."""
     with open(f"/proc/{process.pid}/status", encoding="ascii") as status:
         for line in status:
             if line.startswith(field + ":"):
@@ -35,24 +40,29 @@ def resident(process, field="VmRSS"):
 
 
 def processor_time(process):
-    """The seconds that a process has been on a processor."""
+    """Returns the processor time that the main thread of a process has used, in seconds."""
     with open(f"/proc/{process.pid}/schedstat", encoding="ascii") as times:
         return int(times.read().split()[0]) / 1e9
 
 
 def fits(verdict, expected):
-    """Whether a verdict is one of those expected. An expected text that ends with a space stands for all
-    verdicts that begin with it. If `expected` is None, every verdict but `memory` fits."""
+    """Returns whether a verdict is expected. `expected` is a sequence of texts, or None. A text that ends with a space
+    matches each verdict that begins with the text. Any other text matches only the same verdict. None matches each
+    verdict except `memory`."""
     if expected is None:
         return verdict != "memory"
     return any(verdict == one or (one[-1] == " " and verdict.startswith(one)) for one in expected)
 
 
 class Reader(threading.Thread):
-    """Reads the answers of a node and looks at each verdict as it comes.
+    """A thread that reads the output of a node, and checks each verdict when it arrives.
 
-    The entry of an event in `expected` is there before the event is written. At the verdicts 1, 1001, 2001
-    and so on the SHA-256 of all earlier answers is kept in `marks`, so that two programs can be compared.
+    `expected` has one entry for each event, in the form that `fits` takes. The caller must append the entry before it
+    writes the event. The thread counts the verdicts in `came`, and how often each verdict arrives in `counts`. It
+    appends a message to `wrong` for each verdict that is not expected or has a wrong event number, up to 20 messages.
+    If `keeps` is true, it appends each verdict to `kept`. `sum` is the SHA-256 of the output. At the verdicts 1, 1001,
+    2001 and so on, the thread appends the SHA-256 of all output before the verdict to `marks`. So a caller can find the
+    block of 1000 events in which the outputs of two programs differ.
     """
 
     keeps = False
@@ -76,6 +86,7 @@ class Reader(threading.Thread):
             self.news.notify_all()
 
     def verdict(self, line):
+        """Checks and counts the verdict in a line of the output."""
         number, _, verdict = line.partition(" ")
         if self.came % 1000 == 0:
             self.marks.append(self.sum.hexdigest())
@@ -92,18 +103,19 @@ class Reader(threading.Thread):
                 self.news.notify_all()
 
     def wait(self, count, seconds=120):
-        """Waits until `count` verdicts have come in all."""
+        """Waits until `count` verdicts in total have arrived. Raises Wrong if they do not arrive within `seconds`, or
+        if the output ends before they arrive."""
         with self.news:
             self.waited = count
             if not self.news.wait_for(lambda: self.done or self.came >= count, seconds):
-                raise Wrong(f"only {self.came} of {count} verdicts came within {seconds} s")
+                raise Wrong(f"only {self.came} of {count} verdicts arrived within {seconds} s")
             self.waited = None
         if self.came < count:
             raise Wrong(f"the program ended after {self.came} of {count} verdicts")
 
 
 class ScriptNode:
-    """A node that reads a script through a pipe. Its command must contain the word `script`."""
+    """A node that reads a script from a pipe. `command` must include the argument `script`."""
 
     def __init__(self, command, *options):
         self.process = subprocess.Popen(
@@ -115,23 +127,27 @@ class ScriptNode:
         self.put_so_far = 0
 
     def put(self, line, expected=None):
+        """Writes a line with an event to the node. `expected` has the expected verdicts, as `fits` takes them. Raises
+        Wrong if the node has closed its input."""
         self.reader.expected.append(expected)
         self.put_so_far += 1
         try:
             self.process.stdin.write(line.encode() + b"\n")
         except BrokenPipeError:
-            raise Wrong(f"the program reads no more at event {self.put_so_far}: {self.message()}") from None
+            raise Wrong(f"the program stopped reading at event {self.put_so_far}: {self.message()}") from None
 
     def message(self):
+        """Waits until the node closes standard error, and returns the text that it wrote there."""
         return self.process.stderr.read().decode("utf-8", "replace").strip()
 
     def settle(self):
-        """Waits until each event has been answered."""
+        """Flushes the input, and waits until each event has a verdict."""
         self.process.stdin.flush()
         self.reader.wait(self.put_so_far)
 
     def end(self):
-        """Ends the input, waits for the end of the node, and returns its exit status. `said` is then its message."""
+        """Closes the input, waits until the node exits, and returns the exit status. Sets `said` to the text that the
+        node wrote to standard error."""
         self.process.stdin.close()
         self.reader.join(600)
         self.said = self.message()
@@ -139,14 +155,15 @@ class ScriptNode:
 
 
 def stop(process):
-    """Ends a process that this script began, if it still runs."""
+    """Kills a process that this script started, if it is still running. `process` may be None."""
     if process is not None and process.poll() is None:
         process.kill()
         process.wait()
 
 
 def write_files(folder, rules, keys):
-    """Writes a rule file and a key file, and returns the options that name them."""
+    """Writes a rule file and a key file to a folder, and returns the options `--rules` and `--keys` with their paths.
+    `rules` is the text of the rule file, and `keys` has the keys."""
     paths = []
     for which, text in (("rules", rules), ("keys", "".join(key.line() for key in keys))):
         path = os.path.join(folder, which)
@@ -157,11 +174,12 @@ def write_files(folder, rules, keys):
 
 
 def report(run):
-    """Runs the work of a script, and returns its exit status: 0 if all held, and 1 if something was Wrong."""
+    """Calls `run`, prints whether all checks passed, and returns the exit status: 1 if `run` raises Wrong, otherwise
+    0."""
     try:
         run()
     except Wrong as fault:
-        print(f"WRONG: {fault}", file=sys.stderr)
+        print(f"FAILED: {fault}", file=sys.stderr)
         return 1
-    print("all held")
+    print("all checks passed")
     return 0

@@ -1,4 +1,5 @@
-"""Node scripts of 10 to 175 events, for `refused`, with the verdicts that the documents have for their events."""
+"""Node scripts of 10 to 175 events, for `refused`. All but the random ones have the verdicts that the documents
+require."""
 
 import random
 
@@ -21,13 +22,17 @@ FIRST_TOKEN, SECOND_TOKEN = bytes.fromhex("a1b2"), b"\x7f"
 
 
 class Scenario:
-    """A node script. `expected` has for each event its verdict and the faces that something is sent to, or None in a
-    random script.
+    """A node script. `cache` is the number of Data that the node's cache can hold.
 
-    `loses` are ways for the cache to lose Data. Each is a list of lines. If these lines come after an event, they
-    take Data from the cache, and change no later answer of this script in another way. `apart` says that no answer
-    depends on what the cache did at earlier events that it answered, and that each Data that may be cached comes
-    right after the Interest that it answers.
+    `lines` has the events. `expected` has, for each event, the verdict and the faces to which a packet is sent, in
+    order. In a random script it has None for each event.
+
+    `loses` has the ways in which the cache may lose Data. Each way is a list of lines. If these lines are inserted
+    after an event, they remove Data from the cache, and do not change the later answers of the script otherwise.
+    `apart` means that no answer depends on what the cache did when it answered earlier Interests, and that each Data
+    that may be cached arrives directly after the Interest that it answers.
+
+    `now` is the moment of the next event, and `time` is the signature time of the last command.
     """
 
     def __init__(self, title, cache=1):
@@ -36,14 +41,17 @@ class Scenario:
         self.now, self.time, self.nonces = START, START, 0x01020304
 
     def nonce(self):
+        """Returns a new Nonce."""
         self.nonces += 1
         return self.nonces
 
     def put(self, line, verdict, *faces):
+        """Adds an event. `faces` are the faces to which a packet is sent."""
         self.lines.append(line)
         self.expected.append((verdict, list(faces)))
 
     def up(self, *faces, scope="far"):
+        """Opens faces. Face 1 is local, and all other faces have this scope."""
         for face in faces:
             self.put(f"up {face} {'local' if face == 1 else scope} {self.now}", "passed")
 
@@ -55,40 +63,47 @@ class Scenario:
         self.put(f"tick {now}", "passed")
 
     def comes(self, face, packet, verdict="passed", *faces):
+        """Adds a packet that arrives on `face`."""
         self.put(f"in {face} {self.now} {packet.hex()}", verdict, *faces)
 
     def ask(self, face, of, *faces, **fields):
-        """An Interest that comes on `face`. `faces` are those that it is sent on to, or `face` itself if it is
-        answered."""
+        """Adds an Interest that arrives on `face`, and returns it. `faces` are the faces to which it is forwarded. If
+        the Interest is answered or returned in a Nack, `faces` is `face` itself."""
         packet = p.interest(of, self.nonce(), **fields)
         self.comes(face, packet, "passed", *faces)
         return packet
 
     def answer(self, face, of, *faces, **fields):
+        """Adds a Data that arrives on `face` and is allowed by the rule any-data, and returns it. `faces` are the faces
+        to which it is sent."""
         packet = p.data(of, **fields)
         self.comes(face, packet, "data any-data", *faces)
         return packet
 
     def order(self, verb, of, face=None, status=200, **fields):
-        """A command of the node that comes on face 1 and is allowed, with the status of its reply."""
+        """Adds a command to the node that arrives on face 1 and is allowed, and returns it. `status` is the status of
+        the reply."""
         self.time += 1
         packet = p.command(p.node_name(verb, of, face, **fields), self.nonce(), OPERATOR, self.time)
         self.comes(1, packet, f"allowed {status} ops", 1)
         return packet
 
     def route(self, of, *faces):
+        """Adds a command for each of the faces, which adds a next hop through this face."""
         for face in faces:
             self.order("fib/add-nexthop", of, face)
 
     def store(self, verb, of, status, *faces, **fields):
-        """A command of the repository that comes on face 1 and is allowed. `faces` are those that its own Interest
-        goes to."""
+        """Adds a command to the repository that arrives on face 1 and is allowed, and returns it. `faces` are the faces
+        to which the node sends its own Interest for the Data."""
         self.time += 1
         packet = p.command(p.repository_name(verb, of, **fields), self.nonce(), SECOND, self.time)
         self.comes(1, packet, f"allowed {status} repo-ops", 1, *faces)
         return packet
 
     def list(self, which="fib", version=None, segment=0, verdict="passed"):
+        """Adds an Interest for the list of routes (`fib`) or of strategies (`strategy`), which arrives on face 1. It
+        asks for a segment of a version, or without a version for the first segment of the current version."""
         of = p.name(f"/localhost/nfd/{which}{'' if which == 'fib' else '-choice'}/list")
         if version is not None:
             of += (p.integer(p.VERSION, version), p.integer(p.SEGMENT, segment))
@@ -100,12 +115,14 @@ class Scenario:
         self.list("strategy")
 
     def rules(self, rules=RULES, keys=KEYS):
+        """Adds an event that replaces the rules and the keys of the node."""
         files = rules.encode().hex() or "-", "".join(key.line() for key in keys).encode().hex() or "-"
         self.put(f"rules {self.now} {files[0]} {files[1]}", "passed")
 
     def may_lose_its_data(self):
-        """Adds to `loses` a way to lose the one Data that the cache can hold: another Data takes its place. That does
-        not change the version of the lists. Face 1 has to be open already."""
+        """Adds to `loses` a way in which a cache for one Data loses it: another Data takes its place. The lines of this
+        way do not change the version of the lists. For them, this method opens the faces 60 and 61, and adds a route.
+        Face 1 must be open."""
         self.up(60, 61)
         other = p.name("/other")
         self.route(other, 60)
@@ -177,8 +194,9 @@ def commands_and_their_times():
 
 
 def deadlines():
-    """Again and again one event comes at or after a deadline, and the next event, at a moment before this deadline,
-    asks for what has expired. Without the first event it has not expired."""
+    """Tests several deadlines, each with two events. The moment of the first event is the deadline or later. The moment
+    of the second event is before the deadline, and the answer shows that the entry has expired. Without the first event
+    the entry would not have expired."""
     s = Scenario("deadlines")
     s.up(1, 2, 3)
     s.route(A, 2)
@@ -413,8 +431,8 @@ def tokens():
 
 
 def many_faces():
-    """A Data and a Nack for many faces, with and without tokens. Of the Interests with the same name and the same
-    values of MustBeFresh and CanBePrefix, only the first is forwarded."""
+    """Tests a Data and a Nack that are sent to many faces, with and without PIT tokens. Of the Interests with the same
+    name and the same values of MustBeFresh and CanBePrefix, only the first is forwarded."""
     s = Scenario("many faces wait")
     s.up(1)
     faces = list(range(2, 40))
@@ -436,7 +454,7 @@ def many_faces():
 
 
 def tables_grow():
-    """Many names with routes, strategies, Interests, wants and stored Data, and a list of several segments."""
+    """Makes many routes, strategies, pending Interests, pending inserts and stored Data, and a list of two segments."""
     s = Scenario("tables grow")
     s.up(1, 2, 3)
     names = [p.words(b"%d" % (i % 5), b"x" * 60, b"%d" % i) for i in range(60)]
@@ -467,7 +485,7 @@ def tables_grow():
 
 
 def a_full_cache():
-    """A cache for two Data. Later Data push earlier ones out."""
+    """Fills a cache for two Data, so that later Data evict earlier ones."""
     s = Scenario("a full cache", 2)
     s.up(1, 2, 3)
     s.route(A, 2)
@@ -488,8 +506,8 @@ def a_full_cache():
 
 
 def sensors():
-    """Data on which a rule with a hierarchical checker decides."""
-    s = Scenario("a rule with patterns")
+    """Tests Data on which a rule with a hierarchical checker decides."""
+    s = Scenario("a hierarchical checker")
     s.up(1, 2)
     s.route(p.name("/sensors"), 2)
     of = p.name("/sensors/roof/1")
@@ -519,6 +537,7 @@ def wrong_packets():
 
 
 def all_of_them():
+    """Yields all scripts that are not random."""
     yield route_command_and_list()
     yield strategy_and_cache()
     yield commands_and_their_times()
@@ -540,8 +559,9 @@ def all_of_them():
 
 
 def random_script(seed):
-    """Random events on few names. Each Interest that is no command and asks for no list has MustBeFresh, and no Data
-    is ever fresh, so that the cache answers no Interest."""
+    """Returns a script of 40 events. It opens three faces, adds a route, and continues with random events on a few
+    names. Each Interest that is not a command and does not ask for a list has MustBeFresh, and each Data has no
+    FreshnessPeriod. So the cache answers no Interest."""
     s, draw = Scenario(f"random script {seed}"), random.Random(seed)
     names = (A, AB, ABC, B, B + A, p.name("/sensors/roof"))
     sent = [p.interest(A, 1, must_be_fresh=True)]
