@@ -8,8 +8,7 @@ use ndn_client::{
 use std::alloc::Global;
 use test_support::{KEYS, typed};
 
-/// If `word` is `$KEY` or `$NODE`, returns the options that it stands for. Otherwise returns
-/// `word`.
+/// If `word` is `$KEY` or `$NODE`, returns the options that replace it. Otherwise returns `word`.
 fn spelled(word: &str) -> &str {
     match word {
         "$KEY" => "--keys F --key /ops/KEY/1",
@@ -147,9 +146,9 @@ pub fn end_of(alloc: Global, exchange: &Exchange, progress: Progress) -> (&'stat
     }
 }
 
-/// Returns whether an exchange ended as `wanted` says. `wanted` is the word for the outcome, alone
-/// or followed by a space and the end of the printed text. In this end of the text, `␊` stands for
-/// an LF and `␉` for a tab.
+/// Returns whether an exchange ended as `wanted` says. `wanted` begins with the word for the
+/// outcome. A space and the end of the printed text may follow. In `wanted`, `␊` stands for an LF
+/// and `␉` for a tab.
 pub fn ends_as(
     alloc: Global,
     exchange: &Exchange,
@@ -173,7 +172,7 @@ pub fn plays(alloc: Global, scene: &mut Scene, book: &KeyBook, row: &str) -> Opt
 }
 
 /// Runs the rows in order on one node, up to the first row that `plays` does not confirm. Empty
-/// lines are skipped. Returns the number of this row's line, counted from 1, or 0 if `plays`
+/// lines are skipped. Returns the line number of this row, counted from 1. Returns 0 if `plays`
 /// confirms every row.
 fn first_misplayed(alloc: Global, scene: &mut Scene, book: &KeyBook, rows: &str) -> usize {
     for (before, row) in rows.lines().enumerate() {

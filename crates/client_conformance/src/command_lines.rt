@@ -57,7 +57,8 @@ fn answered(alloc: Global, command: &str, keys: &str) -> Result<String, ToolFaul
 }
 
 /// Returns the exit status of a command and the text that the command prints. If the command fails,
-/// the returned text is that of the fault. Returns `None` if memory runs out for this text.
+/// the returned text is the text of the fault. Returns `None` if there is no memory for the text of
+/// the fault.
 fn reply(alloc: Global, command: &str, keys: &str) -> Option<(u8, String)> {
     match answered(alloc, command, keys) {
         Ok(text) => Some((0, text)),
@@ -513,9 +514,9 @@ TooLong
 status 1
 ";
 
-/// Tests commands that are refused. The reason is that the key is not in the key file, that the
-/// name already has a parameters digest, or that the name has too many components for the
-/// parameters and the digest to be appended.
+/// Tests commands that are refused. One key is not in the key file. One name already has a
+/// parameters digest. Two names have too many components, so the parameters and the digest cannot
+/// be appended.
 #[test]
 fn unwritten_commands(rt: HostRuntime) {
     check_session(&rt, OPS, UNWRITTEN_COMMANDS);
@@ -1160,8 +1161,8 @@ fn key_file_status(rt: &HostRuntime, job: &Job) -> u8 {
     }
 }
 
-/// Returns `true` if a command names the key file `path` (no key file if `path` is `None`) and the
-/// function `key_file_status` returns `status` for the command's job.
+/// Returns whether a command names the key file `path`, and `key_file_status` returns `status` for
+/// the command's job. If `path` is `None`, the command must name no key file.
 fn has_key_file(rt: &HostRuntime, command: &str, path: Option<&str>, status: u8) -> bool {
     job_of(rt.alloc(), command).is_ok_and(|job| job.key_file() == path
         && key_file_status(rt, &job) == status)
@@ -1275,8 +1276,8 @@ fn refused_memory(rt: HostRuntime) {
 }
 
 /// The first line is a command. Each further line has a datagram, and the outcome of the command
-/// after this datagram arrives. The packets in this constant, and in the constants below whose
-/// names end with `ANSWERS`, were made by an independent program.
+/// after this datagram arrives. An independent program made the packets in this constant, and the
+/// packets in the constants below whose names end with `ANSWERS`.
 const ROUTE_ANSWERS: &str =
     "0598075008096c6f63616c686f737408036e66640803666962080b6164642d6e657874686f70080a680807030801416901020220b3efe71974da9dc26e88d0c074c8f0ff34ea85c38b109d9e9c6400b87694f2f20a040102030424002c1a1b01041c0f070d08036f707308034b45590801312804000f42402e20d113cf38056af9bbbec876471f4b51934978ef69345464b05cb762148eaa5dbb
 0684075008096c6f63616c686f737408036e66640803666962080b6164642d6e657874686f70080a680807030801416901020220b3efe71974da9dc26e88d0c074c8f0ff34ea85c38b109d9e9c6400b87694f2f2150965076601c867024f4b16031b01001720b6e80976e9dc6c36e0492f03adf2cda6bfa93df5c7b4489a5fc035173b9449cc done
@@ -1500,8 +1501,8 @@ fn hears(
     Some(asks(rt, &client, request, to))
 }
 
-/// Returns the outcome of a client that receives a datagram that is not a packet, and then a reply
-/// with this status and with more than 9,000 octets.
+/// A client receives a datagram that is not a packet, and then a reply of more than 9,000 octets
+/// with this status. Returns the outcome of the client.
 fn hears_long(rt: &HostRuntime, status: u8) -> Option<Result<(), Fault>> {
     let (request, _) = ROUTE_ANSWERS.split_once('\n')?;
     let request = packet_in(rt.alloc(), request.as_bytes()).ok()?;
@@ -1530,9 +1531,9 @@ fn silence(alloc: Global, rows: &str, from: Option<u16>) -> Option<Silence> {
     Some(silence_of(&request, from, false))
 }
 
-/// A client that gets no answer to a command under `/localhost` reports `Late` if a source port is
-/// given, and `Far` if no source port is given. A client that gets no answer to a command to a
-/// repository reports `Late`, even if no source port is given.
+/// Tests what a client reports if a command gets no answer. For a command under `/localhost`, the
+/// client reports `Late` if a source port is given, and `Far` if no source port is given. For a
+/// command to a repository, the client reports `Late`, even if no source port is given.
 #[test]
 fn silences(rt: HostRuntime) {
     assert!(rt; silence(rt.alloc(), ROUTE_ANSWERS, None) == Some(Silence::Far));

@@ -1,5 +1,5 @@
-//! Tests of which datagram a command accepts as its reply. Other datagrams arrive before the reply,
-//! after the reply, or instead of the reply.
+//! These tests check which datagram a command accepts as its reply. Other datagrams arrive before
+//! the reply, after the reply, or instead of the reply.
 
 use super::client::{ends_as, exchange_of, heard};
 use super::scene::{Scene, on_scene};
@@ -20,7 +20,7 @@ earlier => late
 earlier forged earlier => late
 ";
 
-/// Returns the datagram that a word stands for.
+/// Returns the datagram for a word of a row.
 fn datagram(alloc: Global, word: &str, reply: &[u8], earlier: &[u8]) -> Option<Vec<u8>> {
     let octets = if word == "earlier" { earlier } else { reply };
     let mut datagram = Vec::from_slice(alloc, octets).ok()?;
@@ -30,7 +30,7 @@ fn datagram(alloc: Global, word: &str, reply: &[u8], earlier: &[u8]) -> Option<V
     Some(datagram)
 }
 
-/// Returns the datagrams that the words stand for.
+/// Returns the datagrams for the words of a row.
 fn datagrams(alloc: Global, words: &str, reply: &[u8], earlier: &[u8]) -> Option<Vec<Vec<u8>>> {
     let mut datagrams = Vec::new(alloc);
     for word in words.split(' ') {
@@ -57,8 +57,8 @@ fn earlier_reply(alloc: Global, scene: &mut Scene, book: &KeyBook) -> Option<Vec
     reply_to(alloc, scene, &exchange)
 }
 
-/// Returns whether an exchange ends as a row says, given the reply to the exchange's command and
-/// the reply to the previous command.
+/// Returns whether an exchange ends as a row says. `reply` is the reply to the exchange's command,
+/// and `earlier` is the reply to the previous command.
 fn hears(
     alloc: Global,
     exchange: &mut Exchange,
@@ -151,8 +151,8 @@ fn is_long_heard(alloc: Global, row: &str) -> bool {
     }
 }
 
-/// A reply of 16,063 octets, which is more than 8,800, ends its command if its signature is right.
-/// A reply with a wrong signature is ignored.
+/// A reply may have more than 8,800 octets. A reply of 16,063 octets with a right signature ends
+/// its command. A reply with a wrong signature is ignored.
 #[test]
 fn reply_of_16063_octets(rt: HostRuntime) {
     assert!(rt; first_wrong(rt.alloc(), LONG, is_long_heard) == 0);

@@ -102,8 +102,7 @@ fn data_of(alloc: Global, name: Name<'_>) -> Option<Vec<u8>> {
     Some(data)
 }
 
-/// Returns the packet with which a producer answers an Interest, or `None` if the given packet is
-/// not an Interest.
+/// Returns a producer's answer to a packet, or `None` if the packet is not an Interest.
 fn produced(alloc: Global, packet: &[u8]) -> Option<Vec<u8>> {
     match read_frame(packet) {
         Ok(Frame::Interest(asked)) => data_of(alloc, asked.name),

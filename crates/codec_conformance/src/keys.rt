@@ -106,8 +106,8 @@ fn equal_tags(rt: HostRuntime) {
     check_rows(&rt, rt.alloc(), rows, is_tag);
 }
 
-/// Returns the number of keys in a key file, followed by the key with the name `uri` if there is
-/// one. Returns the fault if the file is refused.
+/// Returns the number of keys in a key file. If the file has a key with the name `uri`, this key
+/// follows the number. Returns the fault if the file is refused.
 fn found(alloc: Global, file: &str, uri: &str) -> Option<String> {
     match KeyBook::read(alloc, file) {
         Ok(book) => found_in(alloc, &book, uri),
@@ -234,7 +234,7 @@ fn digits_of(alloc: Global, words: &str) -> Option<String> {
     hex::encode(alloc, &octets).ok()
 }
 
-/// Returns the result of looking up `/A` in a key file in which `/A` has the key with these
+/// Looks up `/A` in a key file, and returns the result. In this file, the key of `/A` has these
 /// hexadecimal digits.
 fn found_with(alloc: Global, digits: &str) -> Option<String> {
     let file = format!(in alloc; "/A {digits}\n").ok()?;

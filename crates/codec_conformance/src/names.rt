@@ -22,8 +22,9 @@ fn components(alloc: Global, input: &str) -> Option<String> {
     }
 }
 
-/// Returns the number of a name's components and the last component, if the name's iterator returns
-/// the same number of components and the name has no component after the last one.
+/// Returns the number of a name's components, and the last component. Returns `None` if the name's
+/// iterator returns another number of components, or if the name has a component after the last
+/// one.
 fn number_and_last(alloc: Global, name: Name<'_>) -> Option<String> {
     let len = name.len();
     if name.iter().count() != len || name.component(len).is_some() {
@@ -84,7 +85,7 @@ fn digest_lengths(rt: HostRuntime) {
     check_rows(&rt, rt.alloc(), rows, components);
 }
 
-/// Returns the name with these components, each given by its type and its value.
+/// Returns the name with the components in `input`. Each component is a type and a value.
 fn name_of(alloc: Global, input: &str) -> Option<NameBuf> {
     let mut name = NameBuf::new(alloc);
     for component in input.split_ascii_whitespace() {
@@ -99,8 +100,8 @@ fn append(alloc: Global, name: &mut NameBuf, component: &str) -> Option<()> {
     name.append(kind, &octets(alloc, value)?).ok()
 }
 
-/// Returns the octets of a name after a component is appended, or the fault if the append fails.
-/// Returns `None` if the append fails but changes the name.
+/// Appends a component to a name. Returns the octets of the longer name, or the fault if the append
+/// fails. Returns `None` if the append fails but changes the name.
 fn appended(alloc: Global, input: &str) -> Option<String> {
     let (start, component) = input.split_once("+ ")?;
     let (kind, value) = component.split_once(':')?;
@@ -143,14 +144,15 @@ fn appended_components(rt: HostRuntime) {
     check_rows(&rt, rt.alloc(), rows, appended);
 }
 
-/// Returns the URI text of the name with these components, if the text reads as this name.
+/// Returns the URI text of the name with these components. Returns `None` if reading the text does
+/// not give the same name.
 fn uri_of(alloc: Global, input: &str) -> Option<String> {
     let name = name_of(alloc, input)?;
     let text = name.to_uri(alloc).ok()?;
     reads_as(alloc, &text, &name).then_some(text)
 }
 
-/// Returns whether a URI text reads as this name.
+/// Returns whether reading a URI text gives this name.
 fn reads_as(alloc: Global, text: &str, name: &NameBuf) -> bool {
     NameBuf::from_uri(alloc, text).is_ok_and(|read| read == *name)
 }
@@ -265,7 +267,7 @@ fn words_of_numbers(rt: HostRuntime) {
     check_rows(&rt, rt.alloc(), rows, octets_of);
 }
 
-/// Returns the octets of the name that a URI text reads as, or the fault. Returns `None` if the
+/// Reads a URI text as a name. Returns the octets of the name, or the fault. Returns `None` if the
 /// result of `uri_len` disagrees with the number of the name's components or with the fault.
 fn octets_of(alloc: Global, input: &str) -> Option<String> {
     match NameBuf::from_uri(alloc, input) {
@@ -469,8 +471,8 @@ ndn:ndn:/A -> BadUri
     check_rows(&rt, rt.alloc(), rows, octets_of);
 }
 
-/// Appends the input to a text of 64 components. Returns the number of components of the name that
-/// the whole text reads as, or the fault.
+/// Appends the input to a text of 64 components, and reads the whole text as a name. Returns the
+/// number of the name's components, or the fault.
 fn after_64_components(alloc: Global, input: &str) -> Option<String> {
     let mut text = String::new(alloc);
     put_64_components(&mut text)?;
@@ -486,7 +488,7 @@ fn put_64_components(text: &mut String) -> Option<()> {
     Some(())
 }
 
-/// Returns the number of components of the name that a text reads as, or the fault.
+/// Reads a text as a name. Returns the number of the name's components, or the fault.
 fn number_or_fault(alloc: Global, text: &str) -> Option<String> {
     match NameBuf::from_uri(alloc, text) {
         Ok(name) => name.view().len().to_string(alloc).ok(),
@@ -560,8 +562,8 @@ fn hash_of<T: Hash>(value: &T) -> u64 {
     state.finish()
 }
 
-/// Returns the order of two names. Returns `None` if the reverse comparison, equality or hashes of
-/// the owned names or of their views disagree with this order.
+/// Returns the order of two names. Compares the owned names and their views. Returns `None` if a
+/// reverse comparison, a test for equality or a hash disagrees with this order.
 fn order_of(left: &NameBuf, right: &NameBuf) -> Option<Ordering> {
     let order = left.cmp(right);
     let is_equal = order.is_eq();
@@ -660,7 +662,8 @@ fn component_order(rt: HostRuntime) {
 }
 
 /// Takes the first component from the name's iterator. Returns the number of components that
-/// follow, if the iterator and a copy of the iterator return the same number of components.
+/// follow. Returns `None` if a copy of the iterator returns another number of components than the
+/// iterator.
 fn count_after_first(name: Name<'_>) -> Option<usize> {
     let mut after_first = name.into_iter();
     after_first.next();
@@ -682,7 +685,7 @@ fn in_turn(alloc: Global, input: &str) -> Option<String> {
     in_turn_of(alloc, name.view())
 }
 
-/// Returns a copy of the name that a URI text reads as.
+/// Reads a URI text as a name, and returns a copy of the name.
 fn copy_of(alloc: Global, uri: &str) -> Option<NameBuf> {
     let name = NameBuf::from_uri(alloc, uri).ok()?;
     name.try_clone(alloc).ok()
@@ -737,7 +740,7 @@ fn keys(rt: HostRuntime) {
     check_rows(&rt, rt.alloc(), rows, relation);
 }
 
-/// Returns the type and the value of the component that a URI text reads as, or the fault.
+/// Reads a URI text as a component. Returns the type and the value of the component, or the fault.
 fn component(alloc: Global, input: &str) -> Option<String> {
     match component_from_uri(alloc, input) {
         Ok((kind, value)) => {

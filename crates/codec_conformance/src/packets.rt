@@ -25,7 +25,8 @@ fn packet(alloc: Global, input: &str) -> Option<Vec<u8>> {
     Some(octets)
 }
 
-/// Wraps `octets` in nested elements with the types `kinds`, of which the outermost comes first.
+/// Wraps `octets` in nested elements. `kinds` lists the types of the elements, and the outermost
+/// type comes first.
 fn enclose(alloc: Global, octets: &mut Vec<u8>, kinds: &str) -> Option<()> {
     for kind in kinds.split_ascii_whitespace().rev() {
         *octets = element(alloc, kind, octets)?;
@@ -43,7 +44,8 @@ fn element(alloc: Global, kind: &str, value: &[u8]) -> Option<Vec<u8>> {
     Some(out)
 }
 
-/// Returns "read" if the octets read as a frame, and otherwise the name of the fault.
+/// Reads the octets as a frame. Returns "read" if they are a frame, and otherwise the name of the
+/// fault.
 fn outcome_of(octets: &[u8]) -> &'static str {
     match read_frame(octets) {
         Ok(_) => "read",
@@ -51,22 +53,22 @@ fn outcome_of(octets: &[u8]) -> &'static str {
     }
 }
 
-/// Returns "read" if the packet that the row `input` gives reads as a frame, and otherwise the name
-/// of the fault.
+/// Reads the packet in the row `input` as a frame. Returns "read" if the packet is a frame, and
+/// otherwise the name of the fault.
 fn outcome(alloc: Global, input: &str) -> Option<String> {
     let octets = packet(alloc, input)?;
     String::from_str(alloc, outcome_of(&octets)).ok()
 }
 
-/// Returns the outcome of reading a proper prefix of a packet, if all proper prefixes have the same
+/// Reads all proper prefixes of a packet. Returns their outcome if all of them have the same
 /// outcome.
 fn cut(alloc: Global, input: &str) -> Option<String> {
     let octets = packet(alloc, input)?;
     cut_shown(alloc, &octets)
 }
 
-/// Returns the outcome of reading a proper prefix of these octets, if all proper prefixes have the
-/// same outcome.
+/// Reads all proper prefixes of these octets. Returns their outcome if all of them have the same
+/// outcome.
 fn cut_shown(alloc: Global, octets: &[u8]) -> Option<String> {
     let outcome = outcome_of(&[]);
     for end in 0..octets.len() {
@@ -84,7 +86,7 @@ fn carried(alloc: Global, input: &str) -> Option<String> {
     carried_in(alloc, &octets)
 }
 
-/// Returns what `carried` returns, for the frame in these octets.
+/// Returns the result of `carried` for the frame in these octets.
 fn carried_in(alloc: Global, octets: &[u8]) -> Option<String> {
     match read_frame(octets).ok()? {
         Frame::Interest(interest) => packet_shown(alloc, "Interest", interest.whole),
@@ -134,7 +136,7 @@ fn signature_text(alloc: Global, signature: Option<Signature<'_>>) -> Option<Str
     signature_by(alloc, &signature, &key)
 }
 
-/// Returns all fields of a signature, where `key` is the text of its KeyLocator.
+/// Returns all fields of a signature. `key` is the text of the signature's KeyLocator.
 fn signature_by(alloc: Global, signature: &Signature<'_>, key: &str) -> Option<String> {
     let (kind, time, seq) = (signature.kind, signature.time, signature.seq);
     let value = value_text(alloc, Some(signature.value))?;
@@ -189,7 +191,7 @@ fn fields(alloc: Global, input: &str) -> Option<String> {
     fields_in(alloc, &octets)
 }
 
-/// Returns what `fields` returns, for the packet in these octets.
+/// Returns the result of `fields` for the packet in these octets.
 fn fields_in(alloc: Global, octets: &[u8]) -> Option<String> {
     match read_frame(octets).ok()? {
         Frame::Interest(interest) => interest_text(alloc, &interest),

@@ -6,7 +6,8 @@ use std::alloc::Global;
 use std::test::*;
 use test_support::octets;
 
-/// Returns the encoding of a number, if this encoding reads as the number.
+/// Returns the encoding of a number. Returns `None` if reading the encoding does not give the
+/// number.
 fn spelling(alloc: Global, number: &str) -> Option<String> {
     let number = number.parse().ok()?;
     let mut out = Vec::new(alloc);
@@ -14,8 +15,8 @@ fn spelling(alloc: Global, number: &str) -> Option<String> {
     spelling_shown(alloc, number, &out)
 }
 
-/// Returns the octets in hexadecimal, if they read as `number` and their length is what
-/// `number_len` returns for `number`.
+/// Returns the octets in hexadecimal. Returns `None` if reading the octets does not give `number`,
+/// or if `number_len` returns another length for `number`.
 fn spelling_shown(alloc: Global, number: u64, octets: &[u8]) -> Option<String> {
     let (read, rest) = number_of(octets).ok()?;
     if read != number || !rest.is_empty() || number_len(number) != octets.len() {
@@ -43,7 +44,7 @@ fn first(alloc: Global, input: &str) -> Option<String> {
     first_in(alloc, &octets)
 }
 
-/// Returns what `first` returns, for these octets.
+/// Returns the result of `first` for these octets.
 fn first_in(alloc: Global, octets: &[u8]) -> Option<String> {
     match first_element(octets) {
         Ok((element, rest)) => {
@@ -157,7 +158,8 @@ fn shortest_integer(alloc: Global, number: &str) -> Option<String> {
     integer_shown(alloc, number, &out)
 }
 
-/// Returns the octets in hexadecimal, if their length is what `nni_len` returns for `number`.
+/// Returns the octets in hexadecimal. Returns `None` if `nni_len` returns another length for
+/// `number`.
 fn integer_shown(alloc: Global, number: u64, octets: &[u8]) -> Option<String> {
     if nni_len(number) != octets.len() {
         return None;
@@ -193,14 +195,14 @@ fn elements(alloc: Global, input: &str) -> Option<String> {
     elements_in(alloc, &octets)
 }
 
-/// Returns what `elements` returns, for these octets.
+/// Returns the result of `elements` for these octets.
 fn elements_in(alloc: Global, octets: &[u8]) -> Option<String> {
     let mut text = String::new(alloc);
     put_elements(&mut text, octets)?;
     Some(text)
 }
 
-/// Appends to `text` what `elements` returns for these octets.
+/// Appends the result of `elements` for these octets to `text`.
 fn put_elements(text: &mut String, octets: &[u8]) -> Option<()> {
     for element in Elements::new(octets) {
         match element {

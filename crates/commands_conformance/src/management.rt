@@ -24,8 +24,8 @@ fn action_shown(action: Action) -> &'static str {
     }
 }
 
-/// Reads a name, given as a URI and the values of further components in hexadecimal. The word
-/// `digest` stands for a digest of 32 zero octets.
+/// Reads a name. `text` is a URI, and then the values of further components in hexadecimal. The
+/// word `digest` stands for a digest of 32 zero octets.
 pub fn name_in(alloc: Global, text: &str) -> Option<NameBuf> {
     let uri = text.split(' ').next()?;
     let mut name = NameBuf::from_uri(alloc, uri).ok()?;
@@ -59,8 +59,8 @@ fn append_all(alloc: Global, name: &mut NameBuf, text: &str) -> Option<()> {
     Some(())
 }
 
-/// Appends the component of a word: a digest of zeros for `digest`, and otherwise a
-/// GenericNameComponent with the value in hexadecimal.
+/// Reads a word as a component, and appends the component. The word `digest` stands for a digest of
+/// zeros. Any other word is the value of a GenericNameComponent in hexadecimal.
 fn append(alloc: Global, name: &mut NameBuf, word: &str) -> Option<()> {
     if word == "digest" {
         return name.append(2, &[0; 32]).ok();
@@ -101,7 +101,7 @@ fn put_count(text: &mut String, count: Option<u64>) -> Option<()> {
     }
 }
 
-/// Appends a space and the name of a strategy, if there is one.
+/// If there is a strategy, appends a space and the name of the strategy.
 fn put_strategy(text: &mut String, strategy: Option<Name<'_>>) -> Option<()> {
     match strategy {
         None => Some(()),
@@ -226,8 +226,8 @@ fn a_route_needs_an_open_face(rt: HostRuntime) {
     check_rows(&rt, rt.alloc(), rows, applied_shown);
 }
 
-/// Tests a strategy with and without a Version component, unknown strategies, and strategy choices
-/// for names of 32 and of 33 components.
+/// Tests strategy names with and without a Version component, and names of unknown strategies. Also
+/// tests strategy choices for names of 32 and of 33 components.
 #[test]
 fn a_strategy_is_known_by_its_name(rt: HostRuntime) {
     let rows = "
@@ -256,8 +256,8 @@ fn prefixes_of_32_components(rt: HostRuntime) {
     check_rows(&rt, rt.alloc(), rows, applied_shown);
 }
 
-/// The removal of a next hop that does not exist has status 200, even if its face is not up. The
-/// unsetting of a strategy that is not set has status 200, too.
+/// Removing a next hop that does not exist gives status 200, even if its face is not up. Unsetting
+/// a strategy that is not set gives status 200, too.
 #[test]
 fn removals_of_what_is_not_there(rt: HostRuntime) {
     let rows = "

@@ -42,7 +42,7 @@ fn put_fields(
     ndn_tlv::put_number_field(fields, 12, lifetime).ok()
 }
 
-/// Returns a command's parameters, which have these fields.
+/// Returns the parameters of a command with these fields.
 fn parameters_of(alloc: Global, fields: &[u8]) -> Option<Vec<u8>> {
     let mut parameters = Vec::new(alloc);
     ndn_tlv::put_element(&mut parameters, 201, fields).ok()?;
@@ -56,7 +56,7 @@ fn command_name(alloc: Global, verb: &str, parameters: &[u8]) -> Option<NameBuf>
     Some(name)
 }
 
-/// Appends to a name a verb, parameters, and a digest of zeros.
+/// Appends a verb, parameters and a digest of zeros to a name.
 fn put_command(name: &mut NameBuf, verb: &str, parameters: &[u8]) -> Option<()> {
     name.append(8, verb.as_bytes()).ok()?;
     name.append(8, parameters).ok()?;
@@ -107,8 +107,8 @@ fn truth_shown(alloc: Global, truth: bool) -> Option<String> {
     format!(in alloc; "{truth}").ok()
 }
 
-/// Offers a Data, given as its name and its Content. Returns whether the Data answers a want (a
-/// pending insert).
+/// Offers the Data with the name and the Content in `words`. Returns whether the Data answers a
+/// want (a pending insert).
 fn offer(alloc: Global, repo: &mut Repo, words: &str) -> Option<bool> {
     let (name, content) = words.split_once(' ')?;
     let packet = data_of(alloc, name, content, None)?;
@@ -134,8 +134,8 @@ fn serve_packet(alloc: Global, repo: &Repo, packet: &[u8]) -> Option<String> {
     content_shown(alloc, repo.serve(&interest))
 }
 
-/// Returns an Interest, given as its name. A `*` after the name means CanBePrefix, and a `!` at the
-/// end means MustBeFresh.
+/// Returns the Interest that `asked` describes. `asked` is a name. A `*` after the name means
+/// CanBePrefix, and a `!` at the end means MustBeFresh.
 fn asking(alloc: Global, asked: &str) -> Option<Vec<u8>> {
     let (asked, must_be_fresh) = without_mark(asked, '!');
     let (uri, can_be_prefix) = without_mark(asked, '*');
@@ -193,7 +193,7 @@ fn answers(alloc: Global, calls: &str) -> Option<String> {
     shown_on_repo(alloc, calls, answers_of)
 }
 
-/// Returns what `show` shows for a row on an empty repository with the prefix `/repo`.
+/// Calls `show` with a row and an empty repository with the prefix `/repo`, and returns the result.
 fn shown_on_repo(
     alloc: Global,
     row: &str,
@@ -231,7 +231,8 @@ fn put_answer(alloc: Global, shown: &mut String, repo: &mut Repo, call: &str) ->
     push_answer(shown, &text)
 }
 
-/// Shows whether two repositories, each given by its calls, have the same objects and wants.
+/// `row` has calls for two repositories. Shows whether the repositories have the same objects and
+/// wants after their calls.
 fn sameness(alloc: Global, row: &str) -> Option<String> {
     let (calls, others) = row.split_once("; ")?;
     let repo = repo_after(alloc, calls)?;
@@ -291,8 +292,8 @@ fn same_prefixes(rt: HostRuntime) {
     check_rows(&rt, rt.alloc(), rows, same_prefix);
 }
 
-/// A call of `expire` with a time before the deadline of a want leaves the want. A call with the
-/// deadline as the time removes the want.
+/// If `expire` is called with a time before the deadline of a want, the want stays. If `expire` is
+/// called with the deadline itself, the want is removed.
 #[test]
 fn want_deadline(rt: HostRuntime) {
     let rows = "
@@ -324,9 +325,9 @@ insert /A 0, expire 3999, check /A 0, expire 4000, check /A 0 -> 100:0 /A 4000, 
     check_rows(&rt, rt.alloc(), rows, answers);
 }
 
-/// Shows the reply to a command on an empty repository with the prefix `/repo`. The name is given
-/// as a URI and the values of further components in hexadecimal. The word `digest` stands for a
-/// digest of zeros.
+/// Shows the reply to a command on an empty repository with the prefix `/repo`. `text` is the
+/// command's name: a URI, and then the values of further components in hexadecimal. The word
+/// `digest` stands for a digest of zeros.
 fn first_answer(alloc: Global, text: &str) -> Option<String> {
     shown_on_repo(alloc, text, answered_to)
 }
@@ -504,8 +505,8 @@ fn sixty_four_wants(rt: HostRuntime) {
     assert!(rt; wants_are_limited(rt.alloc()) == Some(true));
 }
 
-/// Returns what `play` returns for an empty repository, the names of an insert and of a check for
-/// `/A`, and a Data named `/A`.
+/// Calls `play` with an empty repository, the name of an insert for `/A`, the name of a check for
+/// `/A`, and a Data with the name `/A`. Returns the result.
 fn played<F: Fn(&mut Repo, Name<'_>, Name<'_>, &Data<'_>) -> Option<bool>>(
     alloc: Global,
     play: &F,
@@ -517,8 +518,8 @@ fn played<F: Fn(&mut Repo, Name<'_>, Name<'_>, &Data<'_>) -> Option<bool>>(
     played_on(alloc, &mut repo, &packet, play)
 }
 
-/// Returns what `play` returns for a repository, the names of an insert and of a check for `/A`,
-/// and the Data in the packet.
+/// Calls `play` with this repository, the name of an insert for `/A`, the name of a check for `/A`,
+/// and the Data in the packet. Returns the result.
 fn played_on<F: Fn(&mut Repo, Name<'_>, Name<'_>, &Data<'_>) -> Option<bool>>(
     alloc: Global,
     repo: &mut Repo,

@@ -12,8 +12,8 @@ pub fn push_answer(list: &mut String, answer: &str) -> Option<()> {
     list.push_str(answer).ok()
 }
 
-/// Fails at the first row whose input gives a text other than the expected one. Also fails if there
-/// are no rows.
+/// Calls `show` with the input of each row. Fails at the first row where the result is not the
+/// expected text. Also fails if there are no rows.
 pub fn check_rows(
     rt: &impl Abort,
     alloc: Global,

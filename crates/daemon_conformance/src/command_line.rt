@@ -16,8 +16,8 @@ fn asked(alloc: Global, command: &str) -> Result<Request, Fault> {
     request_of(alloc, words.as_slice())
 }
 
-/// Returns the exit status and the text that a command ends with, or `None` if the command runs a
-/// node or shortens a journal.
+/// Returns the exit status of a command, and its help text or the text of its fault. Returns `None`
+/// if the command runs a node or shortens a journal.
 fn ending(alloc: Global, command: &str) -> Option<(u8, String)> {
     match asked(alloc, command) {
         Ok(Request::Script(_) | Request::Udp(_, _) | Request::Shorten(_)) => None,
@@ -26,8 +26,8 @@ fn ending(alloc: Global, command: &str) -> Option<(u8, String)> {
     }
 }
 
-/// Returns whether a command ends with this exit status and with a text that contains `part` and
-/// ends with exactly one LF.
+/// Returns whether a command has this exit status and a text that contains `part`. The text must
+/// have exactly one LF at its end.
 fn ends_with(alloc: Global, command: &str, status: u8, part: &str) -> bool {
     ending(alloc, command).is_some_and(|(ended, text)| {
         let text = text.as_str();
@@ -200,7 +200,8 @@ fn shortening_text(alloc: Global, options: &ShorteningOptions) -> Option<String>
     format!(in alloc; "{journal} {repo}").ok()
 }
 
-/// Fails at the first row whose command does not make the request that the row gives as text.
+/// Checks that the command of each row makes the request that follows ` -> ` in the row. Fails at
+/// the first wrong row.
 fn check_requests(rt: &(impl Abort + AllocGlobal), rows: &str) {
     let wrong = first_misshown(rt.alloc(), rows, request_text);
     assert!(rt; wrong.is_none(), "{wrong:?}");
@@ -282,7 +283,7 @@ ndn_node script --cache 65536 --repo=/a/b --keys k --rules r -> r k /a/b 65536
     check_requests(&rt, rows);
 }
 
-/// Returns the exit status and the text of the fault with which a file is refused, or `None` if the
+/// If a file is refused, returns the exit status and the text of the fault. Returns `None` if the
 /// file is accepted.
 fn refused<T: Drop>(alloc: Global, read: Result<T, Fault>) -> Option<String> {
     let fault = read.err()?;

@@ -45,9 +45,9 @@ fn readers(rt: HostRuntime) {
     assert!(rt; fails_in_the_middle(rt.alloc()));
 }
 
-/// Returns whether the lines of `text`, read with a limit of four octets, are the lines of
-/// `wanted`. A `-` in `wanted` stands for a line that is too long. Lines after a line that is too
-/// long are not read.
+/// Reads the lines of `text` with a limit of four octets. Returns whether they are the lines of
+/// `wanted`. A `-` in `wanted` stands for a line that is too long. Reading stops at a line that is
+/// too long.
 fn lines_are(alloc: Global, text: &str, wanted: &str) -> Option<bool> {
     let mut lines = Vec::new(alloc);
     read_lines(alloc, text, &mut lines)?;

@@ -50,8 +50,9 @@ pub fn on_node<F: Fn(&mut Node) -> Option<bool>>(alloc: Global, play: &F) -> Opt
     play(&mut node)
 }
 
-/// A sink that counts in `held` the calls of `take` whose lines, taken together, begin with `front`
-/// and end with `back`. A call of `take` with other lines sets `held` to the greatest u64.
+/// A sink that checks the lines of each call of `take`. If the text of the lines begins with
+/// `front` and ends with `back`, the call adds 1 to `held`. Otherwise the call sets `held` to the
+/// greatest u64.
 #[derive(Drop)]
 struct Expected<'a> {
     front: &'static str,
@@ -71,9 +72,9 @@ impl<'a> LogSink for Expected<'a> {
     }
 }
 
-/// Sends octets to a node whose log writes to a sink with the fields of `expected`, and lets the
-/// node take two turns. The log shows all events if `shows_all` is true. Returns whether both turns
-/// were taken.
+/// Sends octets to a node, and lets the node take two turns. The node's log writes to a sink with
+/// the fields of `expected`. The log shows all events if `shows_all` is true. Returns whether both
+/// turns were taken.
 fn writes(
     rt: &(impl AllocGlobal + Net),
     node: &mut Node,

@@ -1,4 +1,4 @@
-//! Tests of log lines as operators read them.
+//! Tests of the exact text of log lines.
 
 use info_rules::{InfoTree, Kind, Reason, RuleNo, Rules};
 use ndn_log::{Came, Entry, put_closed, put_event, put_failed_send, put_strangers};

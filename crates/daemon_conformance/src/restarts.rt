@@ -50,7 +50,8 @@ impl<'a> StoredJournal for MemoryJournal<'a> {
     }
 }
 
-/// Returns the options of a quiet node with these peers that takes one turn on this port.
+/// Returns the options of a quiet node that has these peers, listens on this port and takes one
+/// turn.
 fn one_turn_at(port: u16, peers: Vec<SocketAddr>) -> UdpOptions {
     UdpOptions {
         listen: SocketAddr::from((Ipv4Addr::LOCALHOST, port)),

@@ -26,8 +26,8 @@ fn has_text(made: Result<Option<ShorterJournal>, ShortenFault>, text: &str) -> b
     matches!(made, Ok(Some(shorter)) if shorter.text.as_slice() == text.as_bytes())
 }
 
-/// Returns whether shortening gives this text, `lines` as the number of lines of the journal, and
-/// `kept` as the number of lines that are kept.
+/// Returns whether shortening gives this text and these two numbers: `lines` is the number of lines
+/// of the journal, and `kept` is the number of lines that are kept.
 fn becomes(alloc: Global, journal: &str, lines: usize, kept: usize, text: &str) -> bool {
     matches!(made(alloc, "/repo", journal), Ok(Some(shorter)) if shorter.lines == lines
         && shorter.kept == kept
@@ -133,7 +133,7 @@ fn command_of<'a>(
     Some(packet)
 }
 
-/// Returns the packet that a line beginning with `ask` or `data` stands for.
+/// Returns the packet for which a line of a test stands. The line begins with `ask` or `data`.
 fn packet_in(alloc: Global, line: &str) -> Option<Vec<u8>> {
     if word(line, 0) == "data" {
         return data_of(alloc, word(line, 3), "01", None);
@@ -144,7 +144,7 @@ fn packet_in(alloc: Global, line: &str) -> Option<Vec<u8>> {
     command_of(alloc, &name, &signer, time)
 }
 
-/// Appends the journal line that a line of a test stands for, with an LF.
+/// Appends the journal line for a line of a test, and an LF.
 fn push_line(alloc: Global, text: &mut String, line: &str) -> Option<()> {
     match word(line, 0) {
         "ask" | "data" => push_packet(alloc, text, line)?,
@@ -154,21 +154,21 @@ fn push_line(alloc: Global, text: &mut String, line: &str) -> Option<()> {
     text.push('\n').ok()
 }
 
-/// Appends the journal line of the packet that a line of a test stands for, without an LF.
+/// Appends the journal line for a line of a test that stands for a packet. Appends no LF.
 fn push_packet(alloc: Global, text: &mut String, line: &str) -> Option<()> {
     let packet = packet_in(alloc, line)?;
     let octets = hex::encode(alloc, &packet).ok()?;
     write!(text, "in {} {} {octets}", word(line, 1), word(line, 2)).ok()
 }
 
-/// Appends the journal line of the rules that a line of a test stands for, without an LF.
+/// Appends the journal line for a line of a test that stands for rules. Appends no LF.
 fn push_rules(alloc: Global, text: &mut String, line: &str) -> Option<()> {
     let rules = hex::encode(alloc, RULES.as_bytes()).ok()?;
     let keys = hex::encode(alloc, KEYS.as_bytes()).ok()?;
     write!(text, "{line} {rules} {keys}").ok()
 }
 
-/// Returns the journal that the lines of a test stand for.
+/// Returns the journal for the lines of a test.
 fn journal_of(alloc: Global, lines: &str) -> Option<String> {
     let mut text = String::new(alloc);
     for line in lines.lines() {
@@ -189,8 +189,8 @@ fn marked(alloc: Global, lines: &str) -> Option<String> {
     Some(text)
 }
 
-/// Returns the lines of a test without their marks. Lines whose first word, without the mark, is
-/// `tick` are left out.
+/// Returns the lines of a test without their marks. Lines that then begin with the word `tick` are
+/// left out.
 fn unmarked(alloc: Global, lines: &str) -> Option<String> {
     let mut text = String::new(alloc);
     for line in lines.lines() {
@@ -231,8 +231,8 @@ fn a_route_that_came_back(rt: HostRuntime) {
 }
 
 /// A program registers routes of `/A` and `/B`, and its face closes. The last command of the signer
-/// stays, since the node must deny this command if it comes again. The lines that open the face
-/// before the command, and close it afterwards, stay too.
+/// stays, since the node must deny this command if it comes again. The line that opens the face
+/// before the command stays too, and so does the line that closes the face afterwards.
 const A_PROGRAM_THAT_LEAVES: &str = "* rules 900
 * up 1 local 1000
 * up 2 local 1000
@@ -294,8 +294,8 @@ fn strategies(rt: HostRuntime) {
     keeps_marked(&rt, STRATEGIES);
 }
 
-/// If a Data is still stored at the end of the journal, the line of the Data and the insert that
-/// asked for the Data stay.
+/// If a Data is still stored at the end of the journal, two lines stay: the line of the Data, and
+/// the line of the insert that asked for it.
 const A_DATA_THAT_STAYS: &str = "* rules 900
 * up 1 local 1000
 * up 2 far 1000
@@ -325,8 +325,8 @@ fn a_data_that_goes(rt: HostRuntime) {
     keeps_marked(&rt, A_DATA_THAT_GOES);
 }
 
-/// The first insert must stay, since it is the last command of its signer. The Data that this
-/// insert asked for must stay too, and so must the command that deletes this Data.
+/// The first insert must stay, since it is the last command of its signer. Therefore the Data of
+/// this insert must stay too, and so must the command that deletes this Data.
 const ANOTHER_SIGNER_DELETES: &str = "* rules 900
 * up 1 local 1000
 * up 2 far 1000

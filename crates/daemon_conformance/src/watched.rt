@@ -89,8 +89,8 @@ fn new_rules_come_first(rt: HostRuntime) {
     assert!(rt; rules_come_first(rt.alloc()) == Some(true));
 }
 
-/// Returns whether the first arrivals after a restart are new rules and the closing of faces, at
-/// the last time of the journal.
+/// Returns whether the first arrivals after a restart are new rules, and then the closing of faces.
+/// All these arrivals must have the last time of the journal.
 fn restart_comes_first(alloc: Global) -> Option<bool> {
     let mut closing = Vec::new(alloc);
     closing.push(7).ok()?;

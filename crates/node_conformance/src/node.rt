@@ -110,8 +110,8 @@ fn push_hexadecimal(alloc: Global, text: &mut String, octets: &[u8]) -> Option<(
     text.push_str(&hexadecimal).ok()
 }
 
-/// Appends in hexadecimal the packet or the sample file that a word of a dialogue stands for.
-/// Appends the word itself if it stands for neither. Returns `None` if memory runs out.
+/// If a word of a dialogue stands for a packet or a sample file, appends the octets of the packet
+/// or file in hexadecimal. Otherwise appends the word itself. Returns `None` if memory runs out.
 fn push_spelled(alloc: Global, text: &mut String, word: &str) -> Option<()> {
     match word {
         "SAMPLE" => push_hexadecimal(alloc, text, SAMPLE.as_bytes()),

@@ -7,7 +7,7 @@ use ndn_names::NameBuf;
 use replay_guard::*;
 use std::alloc::Global;
 
-/// Returns the key of a signer, or no key for the word `digest`.
+/// Reads the key of a signer. The word `digest` stands for a signer without a key.
 fn key_in(alloc: Global, text: &str) -> Option<Option<NameBuf>> {
     if text == "digest" {
         return Some(None);
@@ -44,8 +44,8 @@ fn record(alloc: Global, guard: &mut Guard, command: &str) -> Option<()> {
     guard.record(signer_of(&key), time, number).ok()
 }
 
-/// Returns whether a command is fresh. The command is given as its signer, time and number,
-/// followed by the present time.
+/// Returns whether a command is fresh. `command` is the command's signer, time and number, and then
+/// the present time.
 fn is_fresh(alloc: Global, guard: &Guard, command: &str) -> Option<bool> {
     let (signer, rest) = command.split_once(' ')?;
     let (time, rest) = rest.split_once(' ')?;
@@ -168,8 +168,8 @@ prepare /k, /l 0 0, /k 0 0, ? /l 0 1 0 -> no
     check_rows(&rt, rt.alloc(), rows, freshness);
 }
 
-/// After preparations for two signers, a command of either signer can be recorded. This records
-/// nothing for the other signer.
+/// After preparations for two signers, a command of either signer can be recorded. A recording for
+/// one signer records nothing for the other signer.
 #[test]
 fn recordings_after_two_preparations(rt: HostRuntime) {
     let rows = "
@@ -189,7 +189,7 @@ fn keeps_its_promise(alloc: Global) -> Option<bool> {
     Some(promise_is_kept(&mut guard, signer_of(&key)))
 }
 
-/// Returns what `keeps_its_promise` returns, for this new guard and this signer.
+/// Returns the result of `keeps_its_promise` for the new guard `guard` and the signer `signer`.
 fn promise_is_kept(guard: &mut Guard, signer: Signer<'_>) -> bool {
     if guard.prepare(signer).is_err() {
         return guard.check(signer, 0, None, 0);
@@ -204,9 +204,9 @@ fn refused_memory_for_records(rt: HostRuntime) {
 }
 
 /// Returns whether a recording for a new signer leaves earlier records unchanged, even if the
-/// recording runs out of memory. In both cases, the command of the new signer must afterwards be
-/// fresh exactly if it was not recorded. The recording may run out of memory because another
-/// signer's recording used up the preparation. Returns `None` if memory runs out before the
+/// recording runs out of memory. Whether memory runs out or not, the command of the new signer must
+/// afterwards be fresh exactly if it was not recorded. The recording may run out of memory because
+/// another signer's recording used up the preparation. Returns `None` if memory runs out before the
 /// recording for the new signer.
 fn leaves_earlier_records(alloc: Global) -> Option<bool> {
     let first = key_in(alloc, "/k")?;
@@ -214,13 +214,13 @@ fn leaves_earlier_records(alloc: Global) -> Option<bool> {
     new_guard_leaves_records(alloc, signer_of(&first), signer_of(&second))
 }
 
-/// Returns what `leaves_earlier_records` returns, for a new guard and these two signers.
+/// Returns the result of `leaves_earlier_records` for a new guard and these two signers.
 fn new_guard_leaves_records(alloc: Global, first: Signer<'_>, second: Signer<'_>) -> Option<bool> {
     let mut guard = Guard::new(alloc);
     leaves_records(&mut guard, first, second)
 }
 
-/// Returns what `leaves_earlier_records` returns, for this new guard and these two signers.
+/// Returns the result of `leaves_earlier_records` for the new guard `guard` and these two signers.
 fn leaves_records(guard: &mut Guard, first: Signer<'_>, second: Signer<'_>) -> Option<bool> {
     guard.record(Signer::Digest, 5, Some(5)).ok()?;
     guard.prepare(second).ok()?;

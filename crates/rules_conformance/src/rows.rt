@@ -4,8 +4,8 @@ use std::alloc::Global;
 use std::process::Abort;
 use test_support::first_misshown;
 
-/// Fails at the first row whose input gives a text other than the expected text. Also fails if
-/// there are no rows.
+/// Calls `show` with the input of each row. Fails at the first row where the result is not the
+/// expected text. Also fails if there are no rows.
 pub fn check_rows(
     rt: &impl Abort,
     alloc: Global,

@@ -54,7 +54,7 @@ fn find(alloc: Global, store: &mut Store, words: &str) -> Option<String> {
     content_shown(alloc, store.find(key_of(name.view(), flags), now))
 }
 
-/// Reads the greatest number of Data to erase, which is `None` for `all`.
+/// Reads the greatest number of Data to erase. Returns `Some(None)` for `all`.
 fn limit_in(text: &str) -> Option<Option<u64>> {
     if text == "all" {
         return Some(None);
@@ -62,8 +62,8 @@ fn limit_in(text: &str) -> Option<Option<u64>> {
     Some(Some(text.parse().ok()?))
 }
 
-/// Erases Data, and returns the number of erased Data. `words` are a name, and the greatest number
-/// of Data to erase or `all`.
+/// Erases Data, and returns the number of erased Data. `words` are a name and then a limit. The
+/// limit is the greatest number of Data to erase, or `all`.
 fn erase(alloc: Global, store: &mut Store, words: &str) -> Option<u64> {
     let (uri, limit) = words.split_once(' ')?;
     let limit = limit_in(limit)?;
@@ -248,8 +248,8 @@ fn found<'a>(store: &'a mut Store, name: Name<'_>) -> Option<&'a [u8]> {
     store.find(key_of(name, ""), 0)
 }
 
-/// Puts `packet`, which is the Data `/big`, and 1,000 other Data. Returns whether all of them are
-/// cached and `/big` is then found.
+/// Puts the Data `/big`, which `packet` encodes, and then 1,000 other Data. Returns whether all
+/// these Data are cached, and `/big` is found afterwards.
 fn is_kept_among_others(alloc: Global, store: &mut Store, packet: &[u8]) -> Option<bool> {
     if !put_packet(store, packet, 0)? || !put_others(alloc, store, 1000)? {
         return Some(false);

@@ -190,8 +190,8 @@ fn put_used(text: &mut String, used: &Used) -> Option<()> {
     Some(())
 }
 
-/// Appends the octets of an Interest or of a token in hexadecimal, or the word `none` if `interest`
-/// is `None`.
+/// Appends `interest` in hexadecimal, or the word `none` if `interest` is `None`. The octets are
+/// those of an Interest or of a token.
 fn put_interest(alloc: Global, text: &mut String, interest: Option<&[u8]>) -> Option<()> {
     match interest {
         Some(interest) => {
@@ -224,7 +224,7 @@ fn data_at(alloc: Global, uri: &str) -> Option<Vec<u8>> {
     empty_data(alloc, name.view())
 }
 
-/// Satisfies pending Interests with a Data, and returns the faces that the Data is sent to.
+/// Satisfies pending Interests with a Data, and returns the faces to which the Data is sent.
 fn faces_answered(table: &mut Table, packet: &[u8]) -> Option<Faces> {
     match read_frame(packet).ok()? {
         Frame::Data(data) => Some(table.satisfy(&data)),
@@ -304,7 +304,7 @@ fn is_sent(table: &mut Table, key: Key<'_>, numbers: Numbers) -> Option<bool> {
     Some(table.sent(key, numbers.face, numbers.first, nonce, numbers.third))
 }
 
-/// Runs a call that names a key and has a true or false answer, and returns the answer. The call is
+/// Runs a call that names a key. Returns the answer, which is true or false. The call is
 /// `ask KEY FACE NONCE DEADLINE`, `token KEY FACE TOKEN DEADLINE`, `sent KEY ASKER FACE NONCE NOW`,
 /// `loops KEY FACE NONCE`, or `prepare KEY OCTETS`. The PIT token in a `token` call is one octet.
 fn is_so(table: &mut Table, call: &str, key: Key<'_>, numbers: Numbers) -> Option<bool> {
@@ -372,8 +372,8 @@ fn put_keyed(
     put_of_key(alloc, text, table, call, key.view(), numbers)
 }
 
-/// Appends the answer to `has_tokens` or `len`. The answer to `len` is the number of keys with
-/// pending Interests, and whether the table is empty.
+/// Appends the answer to `has_tokens` or `len`. The answer to `len` has the number of keys with
+/// pending Interests, and tells whether the table is empty.
 fn put_count(text: &mut String, pit: &Pit, call: &str) -> Option<()> {
     if call == "has_tokens" {
         return write!(text, "{}", pit.has_tokens()).ok();
@@ -484,8 +484,8 @@ fn remove_numbered(alloc: Global, table: &mut Table, number: u16) -> Option<()> 
     Some(())
 }
 
-/// Runs many rounds, and returns whether each Interest is recorded. Each round records an Interest
-/// under one of 4,096 keys, and removes the Interest that was recorded 64 rounds earlier.
+/// Runs many rounds. Each round records an Interest under one of 4,096 keys, and removes the
+/// Interest that was recorded 64 rounds earlier. Returns whether each Interest is recorded.
 fn runs_rounds(alloc: Global, table: &mut Table) -> Option<bool> {
     for round in 0..ROUNDS {
         let number = u16::try_from(round % 4096).ok()?;

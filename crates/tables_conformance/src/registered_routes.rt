@@ -322,8 +322,8 @@ register /A 18446744073709551615 cost=18446744073709551615 origin=18446744073709
 register /A 0 cost=18446744073709551615, register /A 0 cost=18446744073709551614 origin=18446744073709551615, of /A, unregister /A 0 origin=18446744073709551615, of /A -> 0@18446744073709551614; 0@18446744073709551615
 ";
 
-/// The face, the cost, the origin, the flags and the deadline of a route may be the greatest u64.
-/// The face and the origin of a route may be 0.
+/// The face, cost, origin, flags and deadline of a route may each be the greatest u64. The face and
+/// the origin of a route may be 0.
 #[test]
 fn ends_of_routes(rt: HostRuntime) {
     check_rows(&rt, rt.alloc(), ENDS_OF_ROUTES, answers);

@@ -186,8 +186,8 @@ all: / 2 5, / 3 0; - - 1009; 7@1000 -> send 2 3
 }
 
 /// Best-route chooses the next hop that was last used the earliest. If several next hops were not
-/// used, or were last used at the same moment, the next hop with the least cost is chosen. If
-/// several of these next hops have the least cost, the next hop with the least face is chosen.
+/// used, or were last used at the same moment, best-route chooses the one with the least cost. If
+/// several of them have the least cost, best-route chooses the one with the least face.
 #[test]
 fn best_route_takes_the_least_hop(rt: HostRuntime) {
     let rows = "
@@ -218,7 +218,7 @@ all: / 2 5, / 3 0; - - 0; 3@18446744073709551615 -> send 2
     check_rows(&rt, rt.alloc(), rows, choice);
 }
 
-/// A strategy that these tests define sends to the first eligible next hop.
+/// These tests define a third strategy, which sends to the first eligible next hop.
 #[test]
 fn a_third_strategy(rt: HostRuntime) {
     let rows = "

@@ -6,7 +6,7 @@ use ndn_names::{Name, NameBuf};
 use pit_fib::*;
 use std::alloc::Global;
 
-/// Adds a next hop, which is given by a name, a face and a cost, such as `/A 3 5`.
+/// Adds a next hop. `hop` is a name, a face and a cost, such as `/A 3 5`.
 fn add_hop(alloc: Global, routes: &mut RouteTable, hop: &str) -> Option<()> {
     let (uri, hop) = hop.split_once(' ')?;
     let (face, cost) = hop.split_once(' ')?;
@@ -23,7 +23,8 @@ fn add_hops(alloc: Global, routes: &mut RouteTable, text: &str) -> Option<()> {
     Some(())
 }
 
-/// Reads a table of next hops, each given by a name, a face and a cost, such as `/A 3 5`.
+/// Reads a table of next hops, which are separated by `, `. Each next hop is a name, a face and a
+/// cost, such as `/A 3 5`.
 pub fn routes_in(alloc: Global, text: &str) -> Option<RouteTable> {
     let mut routes = RouteTable::new(alloc);
     add_hops(alloc, &mut routes, text)?;
@@ -370,8 +371,8 @@ fn strategies_answer(alloc: Global, name: Name<'_>, answer: Result<(), TableFaul
     strategies.set(name, StrategyId::Multicast) == answer
 }
 
-/// Returns whether adding a next hop and setting a strategy both have the result `answer`. Both are
-/// done for a name of `depth` components.
+/// Adds a next hop and sets a strategy, each for a name of `depth` components. Returns whether both
+/// calls have the result `answer`.
 fn both_answer(alloc: Global, depth: usize, answer: Result<(), TableFault>) -> Option<bool> {
     let name = deep_name(alloc, depth)?;
     let is_added = routes_answer(alloc, name.view(), answer);
@@ -396,8 +397,8 @@ fn long_name(alloc: Global) -> Option<NameBuf> {
     Some(name)
 }
 
-/// Returns whether the first next hop of a name is face 2 with the cost 0, and the lookup takes at
-/// most 64 searches.
+/// Looks up a name. Returns whether the first next hop is on face 2 and has the cost 0, and the
+/// lookup takes at most 64 searches.
 fn leads_to_2(fib: &Fib, name: Name<'_>) -> Option<bool> {
     let mut steps = 0;
     let hops = fib.longest_counted(name, &mut steps);

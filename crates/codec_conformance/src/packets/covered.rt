@@ -15,7 +15,7 @@ fn covered(alloc: Global, input: &str) -> Option<String> {
     covered_in(alloc, &octets)
 }
 
-/// Returns what `covered` returns, for the packet in these octets.
+/// Returns the result of `covered` for the packet in these octets.
 fn covered_in(alloc: Global, octets: &[u8]) -> Option<String> {
     let parts = match read_frame(octets).ok()? {
         Frame::Interest(interest) => interest.signed_parts(),
@@ -98,20 +98,20 @@ fn kept_shown(alloc: Global, limit: Option<u8>, octets: &[u8], input: &str) -> O
     format!(in alloc; "{limit:?}").ok()
 }
 
-/// Returns whether `octets` are the packet that the row `input` gives.
+/// Returns whether `octets` are the packet in the row `input`.
 fn is_packet(alloc: Global, octets: &[u8], input: &str) -> bool {
     packet(alloc, input).is_some_and(|packet| packet.as_slice() == octets)
 }
 
-/// Returns the HopLimit of an Interest, and its octets after the HopLimit is set to 6. If
-/// `hop_limit_mut` finds no HopLimit, returns the HopLimit that `read_frame` finds, or the text
-/// `None` if `read_frame` finds no HopLimit either.
+/// Sets the HopLimit of an Interest to 6. Returns the original HopLimit, and the octets of the
+/// changed Interest. If `hop_limit_mut` finds no HopLimit, returns the HopLimit that `read_frame`
+/// finds, or the text `None` if `read_frame` finds no HopLimit either.
 fn lent(alloc: Global, input: &str) -> Option<String> {
     let mut octets = packet(alloc, input)?;
     lent_or_kept(alloc, &mut octets, input)
 }
 
-/// Returns what `lent` returns for the row `input`. `octets` are the packet that this row gives.
+/// Returns the result of `lent` for the row `input`. `octets` are the packet in this row.
 fn lent_or_kept(alloc: Global, octets: &mut [u8], input: &str) -> Option<String> {
     let limit = hop_limit_of(octets);
     if lends(octets) {

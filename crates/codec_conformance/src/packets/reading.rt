@@ -239,8 +239,8 @@ fn outcome_with(packet: &mut [u8], place: usize, octet: u8) -> Option<&'static s
     Some(outcome)
 }
 
-/// Changes of a packet: each octet from index `first` to `last` is replaced by `octet`, one at a
-/// time. The changed packets must have the outcome `wanted`.
+/// Changes of a packet. Each change replaces one octet by `octet`. There is one change for each
+/// index from `first` to `last`. The changed packets must have the outcome `wanted`.
 #[derive(Clone, Copy)]
 struct Change<'a> {
     first: usize,
@@ -249,8 +249,7 @@ struct Change<'a> {
     wanted: &'a str,
 }
 
-/// Reads the changes that the row `input` gives: the first and the last index, an octet and an
-/// outcome.
+/// Reads the changes in the row `input`: the first and the last index, an octet and an outcome.
 fn change_in(input: &str) -> Option<Change<'_>> {
     let (first, rest) = input.split_once(' ')?;
     let (last, rest) = rest.split_once(' ')?;
@@ -263,8 +262,9 @@ fn change_in(input: &str) -> Option<Change<'_>> {
     })
 }
 
-/// Returns the number of changed packets if all of them have the wanted outcome, and otherwise the
-/// first other outcome. The wanted outcome `refused` stands for every outcome other than `read`.
+/// Returns the number of changed packets if all of them have the wanted outcome. Otherwise returns
+/// the first other outcome. The wanted outcome `refused` stands for every outcome other than
+/// `read`.
 fn outcomes(packet: &mut [u8], change: &Change<'_>) -> Result<u64, &'static str> {
     let wanted = change.wanted;
     let mut count = 0u64;
@@ -281,7 +281,7 @@ fn outcomes(packet: &mut [u8], change: &Change<'_>) -> Result<u64, &'static str>
 }
 
 /// Changes `COMMAND` as a row says. Returns the number of changed packets if all of them have the
-/// outcome of the row, and otherwise the first other outcome.
+/// outcome in the row. Otherwise returns the first other outcome.
 fn changed(alloc: Global, input: &str) -> Option<String> {
     let change = change_in(input)?;
     let mut command = octets(alloc, COMMAND)?;
@@ -413,8 +413,8 @@ fn faults_of_data(rt: HostRuntime) {
     check_rows(&rt, rt.alloc(), rows, outcome);
 }
 
-/// A Data is read even if elements that are to be ignored are in the Data, in its MetaInfo or in
-/// its SignatureInfo.
+/// A Data is read even if the Data, its MetaInfo or its SignatureInfo has elements that are to be
+/// ignored.
 #[test]
 fn unknown_elements(rt: HostRuntime) {
     let rows = "
@@ -433,7 +433,7 @@ fn unknown_elements(rt: HostRuntime) {
     check_rows(&rt, rt.alloc(), rows, outcome);
 }
 
-/// The name, FreshnessPeriod, Content and signature of a Data with all fields are read.
+/// If a Data has all fields, its name, FreshnessPeriod, Content and signature are read.
 #[test]
 fn fields_of_data(rt: HostRuntime) {
     let rows = "

@@ -85,13 +85,14 @@ fn interest_of(alloc: Global, columns: &[&str], octets: &Octets) -> Option<Strin
     written_interest(alloc, &writer)
 }
 
-/// Returns what is written for an Interest whose fields are in columns, or the fault.
+/// Returns what is written for an Interest with the fields in `columns`, or the fault.
 fn interest_in(alloc: Global, columns: &[&str]) -> Option<String> {
     let octets = octets_in(alloc, columns, 5, 6)?;
     interest_of(alloc, columns, &octets)
 }
 
-/// Returns what is written for the Interest whose fields a row gives, or the fault.
+/// Reads the fields of an Interest from a row. Returns what is written for the Interest, or the
+/// fault.
 fn interest(alloc: Global, input: &str) -> Option<String> {
     let columns: Vec<&str> = input.split(", ").collect(alloc).ok()?;
     interest_in(alloc, columns.as_slice())
@@ -119,13 +120,13 @@ fn data_of(alloc: Global, columns: &[&str], octets: &Octets) -> Option<String> {
     written(alloc, &writer)
 }
 
-/// Returns what is written for a Data whose fields are in columns, or the fault.
+/// Returns what is written for a Data with the fields in `columns`, or the fault.
 fn data_in(alloc: Global, columns: &[&str]) -> Option<String> {
     let octets = octets_in(alloc, columns, 3, 4)?;
     data_of(alloc, columns, &octets)
 }
 
-/// Returns what is written for the Data whose fields a row gives, or the fault.
+/// Reads the fields of a Data from a row. Returns what is written for the Data, or the fault.
 fn data(alloc: Global, input: &str) -> Option<String> {
     let columns: Vec<&str> = input.split(", ").collect(alloc).ok()?;
     data_in(alloc, columns.as_slice())
@@ -139,7 +140,8 @@ fn written_reply(alloc: Global, name: &[u8], content: &[u8]) -> Option<String> {
     appended(alloc, done.err().map(|_| "Memory"), &out)
 }
 
-/// Returns what is written for the reply whose name and Content a row gives, or the fault.
+/// Reads the name and the Content of a reply from a row. Returns what is written for the reply, or
+/// the fault.
 fn reply(alloc: Global, input: &str) -> Option<String> {
     let (name, content) = input.split_once(", ")?;
     let name = octets(alloc, name)?;
@@ -154,7 +156,8 @@ fn written_nack_of(alloc: Global, reason: u64, interest: &[u8]) -> Option<String
     appended(alloc, done.err().map(|_| "Memory"), &out)
 }
 
-/// Returns what is written for the Nack whose reason and Interest a row gives, or the fault.
+/// Reads the reason and the Interest of a Nack from a row. Returns what is written for the Nack, or
+/// the fault.
 fn nack(alloc: Global, input: &str) -> Option<String> {
     let (reason, interest) = input.split_once(", ")?;
     let reason = reason.parse().ok()?;
@@ -192,8 +195,8 @@ fn refused_interests(rt: HostRuntime) {
     check_rows(&rt, rt.alloc(), rows, interest);
 }
 
-/// A management command that is signed with an HMAC key is written as the octets that another
-/// program computed.
+/// The writer and another program give the same octets for a management command. The command is
+/// signed with an HMAC key.
 #[test]
 fn command_signed_by_a_key(rt: HostRuntime) {
     let rows = "
@@ -329,8 +332,8 @@ fn fill(out: &mut Vec<u8>) -> Option<(usize, usize)> {
     (out.starts_with(PLAIN) && out.ends_with(NACK)).then_some((out.len(), out.capacity()))
 }
 
-/// Returns the length and the capacity of an output that had a capacity of 200 octets before `fill`
-/// appended its packets.
+/// Calls `fill` with an empty output that has a capacity of 200 octets. Returns the length and the
+/// capacity of the output after this call.
 fn filled_room(alloc: Global) -> Option<(usize, usize)> {
     let mut out = Vec::with_capacity(alloc, 200).ok()?;
     fill(&mut out)

@@ -168,8 +168,8 @@ fn hex_shown(alloc: Global, octets: &[u8]) -> Option<String> {
     hex::encode(alloc, octets).ok()
 }
 
-/// Applies a command. `call` is the short word that `verb_of` reads as the command's verb, and
-/// `rest` is the parameters in hexadecimal. Shows the command's status and the body of the reply.
+/// Applies a command. `call` is a short word for the command's verb (see `verb_of`), and `rest` is
+/// the parameters in hexadecimal. Shows the command's status and the body of the reply.
 fn command_shown(alloc: Global, station: &mut Station, call: &str, rest: &str) -> Option<String> {
     let verb = verb_of(call)?;
     let text = format!(in alloc; "{verb}{rest}").ok()?;
@@ -241,7 +241,7 @@ pub fn answers(alloc: Global, row: &str) -> Option<String> {
     shown_on_station(alloc, row, answers_of)
 }
 
-/// Returns what `show` shows for a row on a new station.
+/// Calls `show` with a new station and the row, and returns the result.
 pub fn shown_on_station(
     alloc: Global,
     row: &str,
@@ -340,9 +340,9 @@ set 682e07030801416b27072508096c6f63616c686f737408036e66640808737472617465677908
     check_rows(&rt, rt.alloc(), rows, answers);
 }
 
-/// An erase without a Count removes all Data under a name. An erase with a Count removes only the
-/// first Data under the name, at most as many as the Count. The reply to this erase contains the
-/// Count.
+/// An erase without a Count removes all Data under a name. An erase with the Count N removes only
+/// the first N Data under a name, or all Data under the name if they are fewer than N. The reply to
+/// an erase with a Count contains the Count.
 #[test]
 fn erased_data_go(rt: HostRuntime) {
     let rows = "
@@ -423,8 +423,8 @@ fn hops_at(alloc: Global, station: &Station, number: u16) -> Option<usize> {
 }
 
 /// Returns whether a full table refuses a new name but accepts another next hop for a known name.
-/// Even a full table must answer a name that is too long with status 414, and a face that is not up
-/// with status 410.
+/// Even a full table must give status 414 for a name that is too long, and status 410 for a face
+/// that is not up.
 fn refuses_one_name_more(alloc: Global, station: &mut Station) -> Option<bool> {
     Some(
         added_deep(alloc, station)? == 414
@@ -478,8 +478,8 @@ fn has_last_segment(alloc: Global, station: &Station, len: usize, last: u64) -> 
 
 /// Sets the strategies of 4,095 names. The name `/` has a strategy from the start, so the table is
 /// then full. Returns whether the 4,095 names are accepted, a further name is refused, and a name
-/// that has a strategy is accepted. Even the full table must answer an unknown strategy with status
-/// 404.
+/// that has a strategy is accepted. Even the full table must give status 404 for an unknown
+/// strategy.
 fn refuses_one_strategy_more(
     alloc: Global,
     station: &mut Station,
@@ -681,7 +681,8 @@ fn writes_the_segment(alloc: Global) -> Option<bool> {
     Some(packet.as_slice() == expected.as_slice())
 }
 
-/// Returns the Data for the dataset of one route for `/A` to face 7.
+/// Returns the Data for the first segment of a dataset. The dataset has one route, for `/A` to face
+/// 7.
 fn packet_of_one_route(alloc: Global) -> Option<Vec<u8>> {
     let mut station = Station::of_faces(alloc, 7, 9)?;
     first_packet(alloc, &mut station)

@@ -19,7 +19,7 @@ fn names_without_a_verb(rt: HostRuntime) {
     check_rows(&rt, rt.alloc(), rows, command_shown);
 }
 
-/// A name of a command that does not exist is refused with status 501, even if its parameters are
+/// If a command does not exist, its name is refused with status 501, even if the parameters are
 /// wrong or missing.
 #[test]
 fn commands_that_do_not_exist(rt: HostRuntime) {

@@ -93,7 +93,7 @@ in 1 1000000 ADD_NEXT
 > 1 ADDED_NEXT
 ";
 
-/// A command is allowed only once, and a later command of its signer must have a later time. A
+/// A command is allowed only once. Each further command of its signer must have a later time. A
 /// denied command is answered, and changes nothing.
 #[test]
 fn signed_commands(rt: HostRuntime) {

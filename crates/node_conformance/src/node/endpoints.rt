@@ -78,14 +78,14 @@ fn endpoint_of_a_peer(rt: HostRuntime) {
     assert!(rt; knows_peer(&rt) == Some(true));
 }
 
-/// Returns an endpoint of ::1 that no socket is bound to.
+/// Returns an endpoint of ::1 to which no socket is bound.
 fn free_endpoint(rt: &impl Net) -> Option<SocketAddr> {
     let free = UdpSocket::bind(rt, (Ipv6Addr::LOCALHOST, 0)).ok()?;
     free.local_addr().ok()
 }
 
-/// Returns whether a datagram of a client opens a face and arrives on it, and the client receives
-/// what is sent to this face.
+/// Returns whether a datagram of a client opens a face and arrives on this face. The client must
+/// receive what is sent to the face.
 fn serves_client(
     ports: &mut UdpPorts<Moving>,
     listen: SocketAddr,

@@ -39,9 +39,9 @@ fn is_outcome(came: &str) -> Option<bool> {
     )
 }
 
-/// Returns whether a node with 4,096 pending Interests drops an Interest of a new name, but not an
-/// Interest of a known name from another face. The Interest of the known name waits for the answer
-/// to the earlier Interest of this name.
+/// A node has 4,096 pending Interests. Returns whether the node drops an Interest with a new name,
+/// but not an Interest that comes from another face and has the name of a pending Interest. The
+/// Interest from the other face waits for the answer to the pending Interest.
 fn is_refused_alone(alloc: Global) -> Option<bool> {
     let came = script_outcome(alloc)?;
     is_outcome(came.as_str())

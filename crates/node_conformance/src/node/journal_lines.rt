@@ -66,7 +66,8 @@ fn longest_lines(rt: HostRuntime) {
     assert!(rt; has_line(rt.alloc(), 9_994) == Some(false));
 }
 
-/// Appends an event with this verdict, at the time 1000, to an empty file, and returns the file.
+/// Appends the line of an event to an empty file, and returns the file. The event has this verdict
+/// and the time 1000.
 fn file_after(alloc: Global, entry: Entry<'_>, verdict: Verdict) -> Option<MemoryFile> {
     let mut file = MemoryFile {
         octets: Vec::new(alloc),
@@ -194,7 +195,8 @@ fn leaves_new_node(
     )
 }
 
-/// A line that a crash cut short may look like another event, so a replay leaves this line out.
+/// If a crash cuts a line short, the cut line may look like another event. So a replay leaves the
+/// cut line out.
 #[test]
 fn lines_that_were_cut(rt: HostRuntime) {
     let text = b"up 1 local 1000\nup 22 far 1001\ntick 1700\n";
@@ -252,8 +254,8 @@ fn fails_at<R: BufRead>(
     replay(alloc, node, reader) == Err(fault) && node.now() == now
 }
 
-/// Returns whether a replay fails with this fault and leaves the node at the time 17, if the reader
-/// fails with `kind` after these octets.
+/// Replays a journal from a reader that fails with `kind` after these octets. Returns whether the
+/// replay fails with this fault and leaves the node at the time 17.
 fn fails_after(
     alloc: Global,
     node: &mut Node,
@@ -282,8 +284,8 @@ fn a_reader_that_fails(rt: HostRuntime) {
     assert!(rt; fails_with(rt.alloc(), ErrorKind::OutOfMemory, memory) == Some(true));
 }
 
-/// Returns whether the last whole line of new rules in the text has these octets of a rule file and
-/// of a key file.
+/// Returns whether the last whole line of new rules in the text gives a rule file with the octets
+/// `rules` and a key file with the octets `keys`.
 fn are_last(alloc: Global, text: &[u8], rules: &[u8], keys: &[u8]) -> Option<bool> {
     let mut reader = text;
     are_last_rules(alloc, &mut reader, rules, keys).ok()
@@ -296,8 +298,8 @@ fn last_of_two_lines_of_rules(rt: HostRuntime) {
     assert!(rt; are_last(rt.alloc(), text, b"", b"k") == Some(false));
 }
 
-/// The last rules of a journal are those of its last whole line of rules. A line that a crash cut
-/// short is ignored.
+/// The last rules of a journal are the rules in its last whole line of new rules. If a crash cut a
+/// line short, the line is ignored.
 #[test]
 fn rules_that_were_cut(rt: HostRuntime) {
     let text = b"rules 1 - 6b\nrules 2 3b4a -";

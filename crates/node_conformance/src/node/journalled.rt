@@ -9,8 +9,8 @@ use node_core::{Node, Outbox};
 use node_ports::{JournalledPorts, MemoryPorts, Ports, ServeFault, serve};
 use std::alloc::Global;
 
-/// A file in memory that accepts `left` more lines. Appending a further line writes only half of
-/// its octets, and fails.
+/// A file in memory that accepts `left` more lines. A call of `append` for a further line writes
+/// only half of the line's octets, and fails.
 #[derive(Drop)]
 pub struct MemoryFile {
     pub octets: Vec<u8>,
@@ -58,7 +58,7 @@ fn served(
 }
 
 /// Plays the events of a dialogue on a node. Returns whether the node's journal then consists of
-/// these lines, in which words stand for packets.
+/// `lines`. In `lines`, words stand for packets.
 fn keeps_journal(alloc: Global, node: &mut Node, dialogue: &str, lines: &str) -> Option<bool> {
     let wanted = spelled(alloc, lines)?;
     let ports = served(alloc, node, dialogue, 1000, None)?;
@@ -90,10 +90,10 @@ fn journal_of_a_life(rt: HostRuntime) {
     assert!(rt; same == Some(true));
 }
 
-/// A dialogue of which only the first and the last event are journalled. The first event and the
-/// last event each open a face, and the last event has an earlier time than the others. The other
-/// events are the opening of an open face, the closing of a face that is not open, a denied
-/// command, a Data that the repository does not want, and a tick.
+/// In this dialogue, only the first event and the last event are journalled. Each of these two
+/// events opens a face. The last event has an earlier time than all other events. The other events
+/// are the opening of an open face, the closing of a face that is not open, a denied command, a
+/// Data that the repository does not want, and a tick.
 const MOSTLY_DENIED: &str = "
 up 1 local 1000000
 1 passed
@@ -117,7 +117,7 @@ fn journal_of_what_is_denied(rt: HostRuntime) {
     assert!(rt; has_journal(rt.alloc(), MOSTLY_DENIED, lines) == Some(true));
 }
 
-/// Returns whether a journal has three whole lines, and one packet was sent.
+/// Returns whether the ports have sent one packet, and their journal has three whole lines.
 fn has_three_lines(ports: &JournalledPorts<MemoryPorts, MemoryFile>) -> bool {
     let lines = ports.file().octets.iter().filter(|o| **o == b'\n').count();
     ports.ports().sent().len() == 1 && lines == 3

@@ -65,8 +65,8 @@ in 1 1000000 ADD_NEXT
 > 1 ADDED_NEXT
 ";
 
-/// If a signer's key is removed, the signer's commands are denied, but routes that the signer added
-/// stay. When the key is restored, an old command is still a replay.
+/// If a signer's key is removed, the node denies the signer's commands, but keeps the signer's
+/// routes. When the key is restored, an old command is still a replay.
 #[test]
 fn key_taken_away(rt: HostRuntime) {
     replies(&rt, KEY_TAKEN_AWAY);
@@ -94,8 +94,8 @@ in 2 1000000 D_A
 > 1 D_A
 ";
 
-/// The rules that are in force when a Data comes decide whether the Data is allowed. An Interest
-/// stays pending if no rule applies to the Data that would have answered it.
+/// Whether a Data is allowed depends on the rules in force when the Data comes. An Interest stays
+/// pending if no rule applies to the Data that would have answered it.
 #[test]
 fn new_rules_before_data(rt: HostRuntime) {
     replies(&rt, NEW_RULES_BEFORE_DATA);

@@ -45,7 +45,8 @@ fn made(alloc: Global, row: &str) -> Option<String> {
     format!(in alloc; "{made:?}").ok()
 }
 
-/// Returns whether making a node of a row's parts has the result after the row's arrow.
+/// Makes a node of the parts in a row. Returns whether the result is the text after the row's
+/// arrow.
 fn is_made(alloc: Global, row: &str) -> bool {
     let (parts, wanted) = row.split_once(" -> ").unwrap_or((row, "no arrow"));
     made(alloc, parts).as_deref() == Some(wanted)
@@ -76,7 +77,7 @@ fn passes(node: &mut Node, outbox: &mut Outbox, octets: &[u8]) -> bool {
     node.step(interest, outbox).ok() == Some(Verdict::Passed)
 }
 
-/// Returns whether an outbox has exactly two sends, the second of which is this Nack on face 1.
+/// Returns whether an outbox has exactly two sends, and the second send is this Nack on face 1.
 fn ends_with(outbox: &Outbox, nack: &[u8]) -> bool {
     outbox.sent(1) == Some((1, nack)) && outbox.len() == 2 && outbox.sent(2).is_none()
 }
@@ -188,7 +189,7 @@ fn wants_first(node: &Node, wanted: &[u8], other: &[u8]) -> bool {
 }
 
 /// Returns whether a node wants the Data of the insert command one millisecond before the deadline,
-/// but not at the deadline. The node must not want the Data `D_B`, which no command asked for.
+/// but not at the deadline. No command asked for the Data `D_B`, so the node must not want `D_B`.
 fn wants_inserted(alloc: Global, node: &Node) -> bool {
     let wanted = octets_of(alloc, "D_A");
     let other = octets_of(alloc, "D_B");

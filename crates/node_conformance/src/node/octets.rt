@@ -2,7 +2,8 @@
 
 use std::alloc::Global;
 
-/// Each row is a word of the dialogues and the packet that it stands for, in hexadecimal.
+/// Each row has a word of the dialogues and a packet in hexadecimal. The word stands for the
+/// packet.
 const PACKETS: &str = "
 ADD 0598075008096c6f63616c686f737408036e66640803666962080b6164642d6e657874686f70080a680807030801416901020220b3efe71974da9dc26e88d0c074c8f0ff34ea85c38b109d9e9c6400b87694f2f20a040102030424002c1a1b01041c0f070d08036f707308034b45590801312804000f42402e20d113cf38056af9bbbec876471f4b51934978ef69345464b05cb762148eaa5dbb
 EVEN 050e07030801410a0401020304f00100
@@ -156,8 +157,8 @@ SET_MULTICAST_OF_32 64e862200102030405060708090a0b0c0d0e0f101112131415161718191a
 MULTICAST_SET_OF_32 64fd010462200102030405060708090a0b0c0d0e0f101112131415161718191a1b1c1d1e1f2050e006de077a08096c6f63616c686f737408036e6664080f73747261746567792d63686f69636508037365740830682e07030801416b27072508096c6f63616c686f737408036e66640808737472617465677908096d756c7469636173740220e857d04ae31ee26b5f9055ca39a51e4dfe32769b6f98f0a2673f93e44a212aee153965376601c867024f4b682e07030801416b27072508096c6f63616c686f737408036e66640808737472617465677908096d756c74696361737416031b0100172058d504ea63fe17fe29d2a95e0402f95c32431325a35d665508126275ab30220e
 ";
 
-/// Returns the hexadecimal of the packet that a word stands for. If the word stands for no packet,
-/// returns the word itself.
+/// If a word stands for a packet, returns the packet in hexadecimal. Otherwise returns the word
+/// itself.
 pub fn hexadecimal_of(word: &str) -> &str {
     for row in PACKETS.lines() {
         if let Some((name, hexadecimal)) = row.split_once(' ')
@@ -169,8 +170,8 @@ pub fn hexadecimal_of(word: &str) -> &str {
     word
 }
 
-/// Returns the octets that a word of the dialogues stands for, or an empty vector if the word does
-/// not stand for octets.
+/// Returns the octets for a word of the dialogues, or an empty vector if the word does not stand
+/// for octets.
 pub fn octets_of(alloc: Global, word: &str) -> Vec<u8> {
     hex::decode(alloc, hexadecimal_of(word)).unwrap_or(Vec::new(alloc))
 }

@@ -76,7 +76,7 @@ in 3 1000000 D_AB
 ";
 
 /// A Data with a longer name answers an Interest with CanBePrefix. A Data is not sent back to the
-/// face that it came from, but the Interest of that face is no longer pending.
+/// face from which it came. However, the Interest of this face is no longer pending.
 #[test]
 fn data_answers(rt: HostRuntime) {
     replies(&rt, DATA_ANSWERS);
@@ -159,8 +159,9 @@ in 3 1001002 BACK_2
 ";
 
 /// A Nack from the only next hop is sent back once, even if the Interest was forwarded twice. A
-/// further Nack is dropped. If the Interest was forwarded to two next hops, a Nack with the smaller
-/// of the two reasons is sent back when both next hops have sent a Nack.
+/// further Nack is dropped. If the Interest was forwarded to two next hops, no Nack is sent back
+/// until both next hops have sent a Nack. The Nack that is then sent back has the smaller of the
+/// two reasons.
 #[test]
 fn nacks(rt: HostRuntime) {
     replies(&rt, NACKS);

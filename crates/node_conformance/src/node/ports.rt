@@ -40,7 +40,7 @@ fn number(line: &str, i: usize) -> Option<u64> {
     word(line, i).parse::<u64>().ok()
 }
 
-/// Returns the scope that a word of a script stands for.
+/// Returns the scope for a word of a script.
 fn scope_of(word: &str) -> Scope {
     if word == "local" {
         Scope::Local
@@ -147,7 +147,8 @@ fn arrivals_of(alloc: Global, script: &str) -> Option<Vec<OwnedArrival>> {
     Some(arrivals)
 }
 
-/// Returns the script of a dialogue in which words stand for packets.
+/// Returns the script of a dialogue, with all packets and files in hexadecimal. In the dialogue,
+/// words may stand for packets and files.
 fn spelled_script(alloc: Global, dialogue: &str) -> Option<String> {
     let dialogue = spelled(alloc, dialogue)?;
     script_of(alloc, dialogue.as_str())
@@ -203,8 +204,8 @@ pub fn prints(alloc: Global, node: &mut Node, dialogue: &str, wanted: &str) -> O
 }
 
 /// Serves a node with the events of `FIRST_PATH` for `turns` turns, and returns whether the result
-/// is `wanted`. Call number `next` of the port's method `next` fails, and so does call number
-/// `send` of its method `send`. With the number 0, no call of the method fails.
+/// is `wanted`. In the port, call number `next` of the method `next` fails, and call number `send`
+/// of the method `send` fails. If one of the numbers is 0, no call of its method fails.
 fn node_serves(
     alloc: Global,
     node: &mut Node,

@@ -158,8 +158,8 @@ fn are_answers(text: &[u8]) -> bool {
         || is_front(text, ANSWERS_TO_INTEREST)
 }
 
-/// Returns whether `end` is a possible end of `SCRIPT`, and `text` a possible output before this
-/// end, if memory may run out.
+/// Returns whether `SCRIPT` can end with `end` after the output `text`. Memory may run out. If it
+/// runs out while the node is made, `text` is not checked.
 fn is_end(end: Result<(), RunFault>, text: &[u8]) -> bool {
     match end {
         Ok(()) => are_answers(text) && text.ends_with(b"4 passed\n"),
@@ -186,9 +186,9 @@ fn script_with_refused_memory(rt: HostRuntime) {
     assert!(rt; script(rt.alloc()) != Some(false));
 }
 
-/// Returns whether all five events of `FIRST_PATH` come and the port then ends. At most one event
-/// may count as refused, or one send as failed, but not both. Returns `None` if one of the test's
-/// own allocations fails, or `serve` fails.
+/// Returns whether all five events of `FIRST_PATH` come and the port then ends. The number of
+/// refused events plus the number of failed sends must be at most 1. Returns `None` if one of the
+/// test's own allocations fails, or `serve` fails.
 fn serves(alloc: Global, node: &mut Node) -> Option<bool> {
     let mut ports = ports_of(alloc, FIRST_PATH)?;
     let served = serve(alloc, node, &mut ports, 10).ok()?;

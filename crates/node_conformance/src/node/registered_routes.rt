@@ -100,9 +100,9 @@ in 1 1001000 LIST
 > 1 NO_ROUTES
 ";
 
-/// If a route expires at the moment at which its face closes, the version of the list of routes
-/// increases for the expiry and for the closing. If the route is removed because its face closes
-/// earlier, the version increases only for the closing.
+/// If a route expires at the moment when its face closes, the expiry and the closing each increase
+/// the version of the list of routes. If the face closes before the route expires, the closing
+/// removes the route and increases the version once.
 #[test]
 fn routes_end_before_the_event(rt: HostRuntime) {
     replies(&rt, CLOSED_AT_THE_DEADLINE);
@@ -136,8 +136,8 @@ in 1 1001000 LIST
 
 /// Two register commands are denied: a replayed command, and a command with a wrong tag. These two
 /// commands do not extend any route, and do not increase the version of the list of routes. The
-/// command `rib/list`, which the node does not know, increases the version, since the rules allow
-/// this command.
+/// node does not know the command `rib/list`. Nevertheless, this command increases the version,
+/// since the rules allow it.
 #[test]
 fn denied_registers_change_nothing(rt: HostRuntime) {
     replies(&rt, REFUSED_COMMANDS);

@@ -2,8 +2,8 @@ use super::{replies, sample_outcome};
 use std::alloc::Global;
 use test_support::first_wrong;
 
-/// Each row is a script, with `|` for each LF, then ` -> `, the script's output, and how the script
-/// ends.
+/// Each row has a script, then ` -> `, then the script's output, and then how the script ends. A
+/// `|` stands for an LF.
 const SCRIPTS: &str = "
  -> Ok(())
 |# a comment, in 1|| -> Ok(())

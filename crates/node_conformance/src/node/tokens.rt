@@ -1,5 +1,5 @@
-//! PIT tokens: a packet that is sent back to a face has the token of the Interest that it answers,
-//! and a forwarded Interest has no token.
+//! PIT tokens. A packet that answers an Interest is sent back with the token of the Interest. A
+//! forwarded Interest has no token.
 
 use super::replies;
 
@@ -62,9 +62,9 @@ in 3 1000000 TOKEN_AGAIN
 > 3 D_A_OF_7F
 ";
 
-/// An Interest is forwarded without its token. The Data is sent back with the token only to the
-/// face whose Interest had the token. A cached Data is sent back with the token of the Interest
-/// that it answers.
+/// An Interest is forwarded without its token. Each face gets the Data with the token of its own
+/// Interest, or without a token if its Interest had none. A cached Data is sent back with the token
+/// of the Interest that it answers.
 #[test]
 fn token_on_data(rt: HostRuntime) {
     replies(&rt, DATA_FOR_A_TOKEN);
@@ -209,7 +209,7 @@ in 1 1000000 AGAIN
 > 1 D_A
 ";
 
-/// A Data is forwarded and cached without the token that it came with.
+/// If a Data comes with a token, the Data is forwarded and cached without the token.
 #[test]
 fn tokens_of_data_are_ignored(rt: HostRuntime) {
     replies(&rt, DATA_WITH_A_TOKEN);

@@ -60,12 +60,12 @@ pub fn bound_socket(rt: &impl Net) -> Option<UdpSocket> {
     UdpSocket::bind(rt, (Ipv4Addr::LOCALHOST, 0)).ok()
 }
 
-/// Returns the port that a socket is bound to.
+/// Returns the port of a socket.
 pub fn port_of(socket: &UdpSocket) -> Option<u16> {
     Some(socket.local_addr().ok()?.port())
 }
 
-/// Returns a port of this machine that no socket is bound to.
+/// Returns a port of this machine to which no socket is bound.
 pub fn free_port(rt: &impl Net) -> Option<u16> {
     port_of(&bound_socket(rt)?)
 }
@@ -89,8 +89,8 @@ fn handed_ports<'a>(
     UdpPorts::bind(rt, listen, &[], 0, Handed { moment, last: 0 }).ok()
 }
 
-/// Returns ports with one peer, whose face is Local if `local` is 1. The clock of the ports shows
-/// the moment in the cell `moment`.
+/// Returns ports with one peer. The peer's face is Local if `local` is 1. The clock of the ports
+/// shows the moment in the cell `moment`.
 fn handed_ports_of<'a>(
     rt: &impl Net,
     listen: u16,
@@ -117,7 +117,7 @@ fn sends(alloc: Global, socket: &UdpSocket, port: u16, word: &str) -> bool {
         .is_ok()
 }
 
-/// Returns whether the next packet that a socket receives is the packet that `word` stands for.
+/// Returns whether the next packet at a socket is the packet for which `word` stands.
 fn hears(alloc: Global, socket: &UdpSocket, word: &str) -> bool {
     let octets = octets_of(alloc, word);
     hears_octets(socket, octets.as_slice())
@@ -292,7 +292,7 @@ fn sixty_four_ports(alloc: Global) -> Option<Vec<u16>> {
     Some(ports)
 }
 
-/// Returns ports whose peers are the ports 1 to 64.
+/// Returns `UdpPorts` with 64 peers, which are at the ports 1 to 64.
 fn full_ports(rt: &(impl AllocGlobal + Net), listen: u16) -> Option<UdpPorts<Still>> {
     let peers = sixty_four_ports(rt.alloc())?;
     if peers.len() > 64 {
@@ -333,7 +333,7 @@ fn client_of_9001(rt: &(impl AllocGlobal + Net), to: u16) -> Option<UdpSocket> {
     send_one(rt, to, octets.as_slice()).ok()
 }
 
-/// Returns whether a face opens, and the packet that came is dropped as too long.
+/// Returns whether a face opens, and the packet on this face is dropped as too long.
 fn drops_as_too_long(alloc: Global, node: &mut Node, ports: &mut UdpPorts<Still>) -> bool {
     let too_long = Verdict::Dropped(DropReason::Malformed(PacketFault::TooLong));
     passes(alloc, node, ports, 1) && says(alloc, node, ports, too_long)
@@ -357,7 +357,8 @@ fn udp_too_long(rt: HostRuntime) {
     assert!(rt; is_too_long(&rt) == Some(true));
 }
 
-/// Returns whether a send to face 1 fails and is counted as a failure, if no face is open.
+/// Tries to send to face 1 while no face is open. Returns whether the send fails and is counted as
+/// a failure.
 fn counts_failures(rt: &impl Net) -> Option<bool> {
     let listen = free_port(rt)?;
     let mut ports = still_ports(rt, listen)?;
@@ -402,8 +403,8 @@ pub fn brings_packet<M: Moments>(
     )
 }
 
-/// Returns whether the next arrival opens the face at the moment `opened`, and the arrival after
-/// that is a packet of `len` octets on this face at the moment `came`.
+/// Returns whether the next two arrivals open this face and bring a packet on it. The face must
+/// open at the moment `opened`. The packet must have `len` octets and come at the moment `came`.
 pub fn opens<M: Moments>(
     ports: &mut UdpPorts<M>,
     face: u64,
@@ -639,9 +640,9 @@ fn open_all<M: Moments>(ports: &mut UdpPorts<M>, faces: u64, at: u64) -> bool {
     true
 }
 
-/// Returns whether a send to `newcomer`, at the 65th port, fails if `client`, at the 64th port, was
-/// silent for 9,999 milliseconds. After 10,000 milliseconds of silence the face of `client` must
-/// close, and a send to `newcomer` must succeed.
+/// `client` is at the 64th port, and `newcomer` is at the 65th port. Returns whether a send to
+/// `newcomer` fails when `client` has been silent for 9,999 milliseconds. After 10,000 milliseconds
+/// of silence the face of `client` must close, and a send to `newcomer` must succeed.
 fn gives_way(
     ports: &mut UdpPorts<Handed<'_>>,
     moment: &Cell<u64>,
@@ -666,8 +667,8 @@ fn connected(rt: &impl Net, to: u16) -> Option<UdpSocket> {
     Some(socket)
 }
 
-/// Returns ports whose peers are the ports 1 to 63, with a clock that shows the moment in the cell
-/// `moment`.
+/// Returns `UdpPorts` with 63 peers, which are at the ports 1 to 63. The clock shows the moment in
+/// the cell `moment`.
 fn almost_full_ports<'a>(
     rt: &(impl AllocGlobal + Net),
     listen: u16,
@@ -759,7 +760,7 @@ fn node_loses_route(
     loses_route_to(rt, node, moment, &operator, &producer)
 }
 
-/// Returns whether a route is removed when the face that it leads to closes.
+/// Returns whether a route is removed when its face closes.
 fn loses_route(rt: &(impl AllocGlobal + Net), moment: &Cell<u64>) -> Option<bool> {
     on_node(rt.alloc(), &|_, node| node_loses_route(rt, node, moment))
 }

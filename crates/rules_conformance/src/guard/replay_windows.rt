@@ -35,7 +35,7 @@ fn an_equal_time_or_number_is_not_new(rt: HostRuntime) {
     check_rows(&rt, rt.alloc(), rows, freshness);
 }
 
-/// A command without a number leaves the number recorded for its signer unchanged.
+/// A command without a number does not change the recorded number of its signer.
 #[test]
 fn a_command_without_a_number_forgets_no_number(rt: HostRuntime) {
     let rows = "

@@ -113,8 +113,8 @@ fn spell_next(numbers: &mut Numbers, sample: &mut Sample) -> Option<()> {
 }
 
 impl Sample {
-    /// Appends the anchor to the pattern or leaves it out, chosen at random. Without the anchor,
-    /// the atom with this number is an implied atom, which matches any components.
+    /// Decides at random whether to append the anchor to the pattern. Without the anchor, the atom
+    /// with this number is an implied atom, which matches any components.
     fn put_end(&mut self, numbers: &mut Numbers, number: usize, anchor: &str) -> Option<()> {
         if numbers.below(2) == 0 {
             *self.atoms.get_mut(number)? = ANYTHING;
@@ -220,8 +220,8 @@ fn agreed(
     agreed_on(&pattern, name.view(), atoms, group, letters)
 }
 
-/// Returns what `agreed` returns, for a pattern that was read and the name with one component for
-/// each letter.
+/// Returns the result of `agreed`. `pattern` is the pattern that `agreed` has read, and `name` is
+/// the name with one component for each letter.
 fn agreed_on(
     pattern: &Pattern,
     name: Name<'_>,
@@ -246,7 +246,7 @@ fn next_agreed(alloc: Global, numbers: &mut Numbers) -> Option<bool> {
     agreed(alloc, text.as_str(), &atoms, group, &letters)
 }
 
-/// Tries 3000 random patterns, each with another random name, and returns how many patterns match.
+/// Tries 3000 random patterns, each with its own random name, and returns how many patterns match.
 /// If the simple program disagrees on a pattern, returns the number of the first such pattern.
 fn matches_of_3000(alloc: Global) -> Result<u32, u32> {
     let mut numbers = Numbers(2014);

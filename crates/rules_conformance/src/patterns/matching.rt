@@ -54,8 +54,8 @@ fn is_matched_so(alloc: Global, row: &str) -> bool {
     }
 }
 
-/// Returns whether the match adds `wanted` to the counter of steps, both if the counter is 0 before
-/// and if it is a large number before.
+/// Returns whether the match adds `wanted` to the counter of steps. The match is run twice: the
+/// counter begins at 0, and then at a large number.
 fn has_steps(pattern: &Pattern, name: Name<'_>, wanted: &str) -> bool {
     let many = u64::MAX - 1_000_000;
     let mut steps = 0;

@@ -1,4 +1,4 @@
-//! Tests that show which texts are templates, and which names the templates expand to.
+//! Tests that show which texts are templates, and which names result from expanding templates.
 
 use crate::rows::assert_right;
 use name_patterns::{Pattern, PatternFault, Template};
@@ -27,16 +27,17 @@ fn expanded(
     }
 }
 
-/// Returns the URI of the name that a template expands to, or the fault if this name would be too
-/// long. Returns `None` if the pattern, the name or the template is not valid, if the pattern does
-/// not match, or if `is_too_long` disagrees with the expansion.
+/// Expands a template. Returns the URI of the resulting name, or the fault if this name would be
+/// too long. Returns `None` if the pattern, the name or the template is not valid, if the pattern
+/// does not match, or if `is_too_long` disagrees with the expansion.
 fn made(alloc: Global, pattern: &str, name: &str, template: &str) -> Option<String> {
     let pattern = Pattern::read(alloc, pattern).ok()?;
     let name = NameBuf::from_uri(alloc, name).ok()?;
     made_at(alloc, &pattern, template, name.view())
 }
 
-/// Returns what `made` returns, for the pattern and the name that `made` has read.
+/// Returns the result of `made`. `pattern` and `name` are the pattern and the name that `made` has
+/// read.
 fn made_at(alloc: Global, pattern: &Pattern, template: &str, name: Name<'_>) -> Option<String> {
     match expanded(alloc, pattern, template, name).ok()?? {
         Ok(made) => made.to_uri(alloc).ok(),

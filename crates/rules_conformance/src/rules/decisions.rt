@@ -9,16 +9,16 @@ use ndn_packets::{DataWriter, Frame, InterestWriter, Sign, read_frame};
 use std::alloc::Global;
 use test_support::{KEYS, first_wrong, typed};
 
-/// Returns the octets of a Data if `kind` is `data`, or of a signed Interest with the SignatureTime
-/// 1 if `kind` is `interest`.
+/// Returns the octets of a packet. If `kind` is `data`, the packet is a Data. If `kind` is
+/// `interest`, the packet is a signed Interest with the SignatureTime 1.
 fn written<'a>(alloc: Global, kind: &str, name: Name<'a>, sign: Sign<'a>) -> Option<Vec<u8>> {
     let mut octets = Vec::new(alloc);
     put_packet(&mut octets, kind, name, sign)?;
     Some(octets)
 }
 
-/// Appends a Data if `kind` is `data`, or a signed Interest with the SignatureTime 1 if `kind` is
-/// `interest`.
+/// Appends a packet. If `kind` is `data`, the packet is a Data. If `kind` is `interest`, the packet
+/// is a signed Interest with the SignatureTime 1.
 fn put_packet<'a>(octets: &mut Vec<u8>, kind: &str, name: Name<'a>, sign: Sign<'a>) -> Option<()> {
     match kind {
         "data" => put_data(octets, name, sign),
@@ -111,8 +111,8 @@ pub fn told_of(alloc: Global, file: &str, keys: &str, packet: &str) -> Option<St
     }
 }
 
-/// Reads the rules of a file after replacing its symbols by the characters that the symbols stand
-/// for.
+/// Replaces each symbol in a file by the character for which the symbol stands, and then reads the
+/// rules of the file.
 fn typed_rules(alloc: Global, file: &str) -> Option<Rules> {
     let text = typed(alloc, file)?;
     rules_of(alloc, text.as_str()).ok()
@@ -332,7 +332,7 @@ data /A by /ops/KEY/1 kez → denied 0 KeyLocator
 ";
 
 /// If a rule has checkers, but none for the signature type of a Data, the Data is denied with the
-/// reason `SigType`. A rule without checkers denies a Data with the reason `KeyLocator`.
+/// reason `SigType`. If a rule has no checkers, a Data is denied with the reason `KeyLocator`.
 #[test]
 fn no_checker_of_the_type(rt: HostRuntime) {
     assert_right(&rt, first_wrong_of(rt.alloc(), NO_CHECKER_OF_THE_TYPE));
@@ -372,8 +372,8 @@ octets 0567072508014102204b517d4208fcf6ccf88fa54794a0898bf87bd1bd363776b41a1ffc2
 interest /A by /ops/KEY/1 key → denied 0 KeyLocator
 ";
 
-/// A rule without checkers denies a signed Interest with the reason `Shape` if the Interest has no
-/// SignatureTime, and with the reason `KeyLocator` otherwise.
+/// A rule without checkers denies every signed Interest. The reason is `Shape` if the Interest has
+/// no SignatureTime, and `KeyLocator` otherwise.
 #[test]
 fn signed_interests(rt: HostRuntime) {
     assert_right(&rt, first_wrong_of(rt.alloc(), SIGNED_INTERESTS));

@@ -431,7 +431,7 @@ octets 060c070308014116031b01051700 → no rule
 ";
 
 /// Data with RSA, ECDSA and Ed25519 signatures can be read. The rule in `SHARED_PART` denies these
-/// Data. The rule in `OPERATORS` does not apply to Data, since it is for Interests.
+/// Data. The rule in `OPERATORS` does not apply to Data, since this rule is for Interests.
 #[test]
 fn other_signatures(rt: HostRuntime) {
     assert_right(

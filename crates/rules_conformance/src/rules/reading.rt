@@ -11,8 +11,8 @@ pub fn rules_of(alloc: Global, text: &str) -> Result<Rules, RulesFault> {
     Rules::read(alloc, &tree)
 }
 
-/// Returns whether `wanted` is the number of rules in a text, as in `rules: 1`, or the fault of the
-/// text, as in `3 Syntax`.
+/// Returns whether reading a text has the result `wanted`. The result is the number of rules in the
+/// text, as in `rules: 1`, or the fault of the text, as in `3 Syntax`.
 fn is_told(alloc: Global, text: &str, wanted: &str) -> bool {
     told_of(alloc, text).is_some_and(|told| told.as_str() == wanted)
 }
@@ -39,8 +39,8 @@ fn is_told_between(alloc: Global, before: &str, row: &str, after: &str) -> bool 
     ))
 }
 
-/// Joins `before`, `inner` and `after`, and replaces the symbols in them by the characters that the
-/// symbols stand for.
+/// Joins `before`, `inner` and `after`. Then replaces each symbol in the joined text by the
+/// character for which the symbol stands.
 fn typed_between(alloc: Global, before: &str, inner: &str, after: &str) -> Option<String> {
     let text = format!(in alloc; "{before}{inner}{after}").ok()?;
     typed(alloc, text.as_str())
@@ -407,7 +407,7 @@ fn fault_of(name: &str) -> Option<RulesFaultKind> {
     })
 }
 
-/// Returns the message for a fault on line 8 whose kind has the name `name`.
+/// Returns the message for a fault on line 8. `name` is the name of the fault's kind.
 fn fault_text(alloc: Global, name: &str) -> Option<String> {
     let kind = fault_of(name)?;
     let fault = RulesFault { line: 8, kind };

@@ -67,7 +67,8 @@ fn debug_of(alloc: Global, text: &str) -> Option<String> {
     format!(in alloc; "{tree:?}").ok()
 }
 
-/// Returns whether a text has the fault `wanted`, given by its line and its kind, as in `3 Syntax`.
+/// Returns whether a text has the fault `wanted`. `wanted` is the line and the kind of the fault,
+/// as in `3 Syntax`.
 fn has_fault(alloc: Global, text: &str, wanted: &str) -> bool {
     let Err(fault) = InfoTree::read(alloc, text) else {
         return false;

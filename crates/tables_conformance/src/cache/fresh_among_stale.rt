@@ -38,18 +38,18 @@ fn is_given_in_time(store: &mut Store, name: Name<'_>, fresh: &[u8]) -> bool {
     is_given && fresh_under(store, name, 10).is_none()
 }
 
-/// Returns whether the fresh Data is found after 600 Data were removed.
+/// Removes 600 Data. Returns whether the fresh Data is still found.
 fn is_left(store: &mut Store, name: Name<'_>, fresh: &[u8]) -> bool {
     store.erase(name, Some(600)) == 600 && fresh_under(store, name, 9) == Some(fresh)
 }
 
-/// Returns whether no fresh Data is found after the Data with the name `own` was removed.
+/// Removes the Data with the name `own`. Returns whether no fresh Data is found afterwards.
 fn is_gone(store: &mut Store, name: Name<'_>, own: Name<'_>) -> bool {
     store.erase(own, None) == 1 && fresh_under(store, name, 9).is_none()
 }
 
-/// Returns whether the fresh Data is found until its FreshnessPeriod is over, even while other Data
-/// are removed, and is not found after it was removed itself.
+/// Returns whether the fresh Data is found until its FreshnessPeriod is over, and is found after
+/// other Data were removed. After the fresh Data itself was removed, it must not be found.
 fn is_given_while_fresh(store: &mut Store, name: Name<'_>, fresh: &[u8]) -> Option<bool> {
     let is_given = is_given_in_time(store, name, fresh) && is_left(store, name, fresh);
     match read_frame(fresh).ok()? {

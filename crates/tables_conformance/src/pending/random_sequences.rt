@@ -7,7 +7,7 @@ use pit_fib::*;
 use std::alloc::Global;
 use test_support::random;
 
-/// Keys, the last of which asks for a Data by its digest.
+/// Keys. The last key selects one Data by its digest.
 const KEYS: [&str; 6] = [
     "/A",
     "/A+p",
@@ -251,7 +251,7 @@ fn are_asking(records: &Records, answered: &[bool], faces: &Faces) -> bool {
     faces.len() == asking
 }
 
-/// Returns whether the table and the records agree on the faces that a Data is sent to.
+/// Returns whether the table and the records agree on the faces to which a Data is sent.
 fn satisfy_agrees(
     table: &mut Table,
     records: &mut Records,
@@ -332,8 +332,8 @@ fn ask_agrees(
     Some(agrees && refused.is_none())
 }
 
-/// Returns whether a `sent` call is recorded exactly if the records have a pending Interest of the
-/// face `asker` under the key.
+/// Runs a `sent` call, and returns whether the table and the records agree. The table must record
+/// the sending exactly if the records have a pending Interest of the face `asker` under the key.
 fn sent_agrees(
     table: &mut Table,
     records: &mut Records,
@@ -384,9 +384,9 @@ fn random_call(first: u64, state: &mut u64) -> Asked {
     }
 }
 
-/// Returns whether a random call gives the same answer for the table and for the records, and both
-/// then have the same records for a random face and key. The key has the index `first` or the next
-/// index, and most calls are for this key.
+/// Runs a random call on the table and on the records. Returns whether their answers agree, and the
+/// table then has the same records as `records` for a random face and key. The key has the index
+/// `first` or the next index, and most calls are for this key.
 fn call_agrees(
     table: &mut Table,
     records: &mut Records,
@@ -466,8 +466,8 @@ fn all_packets(alloc: Global) -> Option<Vec<Vec<u8>>> {
 }
 
 /// Returns whether ten thousand sequences agree with the records. Over all sequences, more than 100
-/// Nacks must have had the result `Waiting`, more than 100 the result `All`, and more than 100
-/// Interests must have looped.
+/// Nacks must have had the result `Waiting`, and more than 100 Nacks the result `All`. More than
+/// 100 Interests must have looped.
 fn sequences_agree(alloc: Global, keys: &[OwnedKey], packets: &[Vec<u8>]) -> Option<bool> {
     let mut state = 0x2545_f491_4f6c_dd1d;
     let mut seen = Seen {

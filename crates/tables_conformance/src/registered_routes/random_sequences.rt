@@ -178,8 +178,8 @@ impl Plain {
         None
     }
 
-    /// Returns the least cost of a name's routes on a face: of all its routes or, if
-    /// `inherited_alone` is set, only of its child-inherit routes.
+    /// Returns the least cost of a name's routes on a face. If `inherited_alone` is set, only the
+    /// child-inherit routes count.
     fn least_cost(&self, name: usize, face: u64, inherited_alone: bool) -> Option<u64> {
         let mut least = None;
         for one in &self.routes {
@@ -191,8 +191,8 @@ impl Plain {
         least
     }
 
-    /// Returns the longest of those proper prefixes of a name which have a child-inherit route on a
-    /// face.
+    /// Among the proper prefixes of a name, returns the longest one that has a child-inherit route
+    /// on a face.
     fn nearest(&self, name: usize, face: u64) -> Option<usize> {
         let mut nearest = None;
         for above in 0..8 {
@@ -249,7 +249,7 @@ impl Plain {
         self.inherited_cost(seen, name, face)
     }
 
-    /// Returns the longest of those prefixes of a name which have a next hop or a route.
+    /// Among the prefixes of a name, returns the longest one that has a next hop or a route.
     fn longest(&self, name: usize) -> Option<usize> {
         let mut longest = None;
         for prefix in 0..8 {

@@ -48,8 +48,8 @@ fn remove(alloc: Global, routes: &mut RouteTable, number: u16) -> Option<()> {
     Some(())
 }
 
-/// Returns whether a table accepts routes of 256 names, 64 for each name: on two faces, with 32
-/// origins each.
+/// Returns whether a table accepts 64 routes for each of 256 names. The 64 routes are on two faces,
+/// with 32 origins on each face.
 fn takes_16384(alloc: Global, routes: &mut RouteTable) -> Option<bool> {
     for number in 0..256 {
         for one in 0..64 {
@@ -191,8 +191,8 @@ fn finds_33(fib: &Fib, name: Name<'_>) -> Option<bool> {
 }
 
 /// Returns whether the lookup of a name of 64 components finds the routes of 33 prefixes, with at
-/// most one search for each component. The route of each of these prefixes is on another face, and
-/// has a lesser cost than the route of the next shorter prefix.
+/// most one search for each component. These routes are on 33 different faces. The route of each
+/// prefix has a lesser cost than the route of the next shorter prefix.
 fn looks_up_64_components(alloc: Global, routes: &mut RouteTable) -> Option<bool> {
     register_33(alloc, routes)?;
     let deep = deep_name(alloc, 64)?;
@@ -243,16 +243,16 @@ fn takes_ninth_route(routes: &mut RouteTable, name: Name<'_>) -> Option<bool> {
     Some(is_taken && routes.read().longest(name).len() == 9)
 }
 
-/// Returns whether a prepared call that adds a ninth route to a name with eight routes does not run
-/// out of memory.
+/// Returns whether a prepared call does not run out of memory. The call adds a ninth route to a
+/// name with eight routes.
 fn registers_a_ninth_route(alloc: Global, routes: &mut RouteTable) -> Option<bool> {
     let name = numbered(alloc, 1)?;
     takes_ninth_route(routes, name.view())
 }
 
-/// Returns whether a next hop that was prepared for this name is added, even after the only route
-/// of the name is unregistered. If the preparation fails, returns whether the table still has the
-/// name.
+/// Registers a route of this name, prepares a next hop for the name, and unregisters the route.
+/// Returns whether the next hop is then added. If the preparation fails, returns whether the table
+/// still has the name.
 fn takes_prepared_hop(routes: &mut RouteTable, name: Name<'_>) -> Option<bool> {
     routes.register(name, Route::new(2, 0)).ok()?;
     if routes.prepare(name).is_err() {
@@ -263,15 +263,16 @@ fn takes_prepared_hop(routes: &mut RouteTable, name: Name<'_>) -> Option<bool> {
     Some(is_gone && routes.add(name, 3, 0).is_ok() && routes.read().len() == 1)
 }
 
-/// Returns whether a prepared call that adds a next hop to a name does not run out of memory,
-/// although the route that the name had at the preparation is unregistered before the call.
+/// Returns whether a prepared call does not run out of memory. The call adds a next hop to a name.
+/// Between the preparation and the call, the only route of the name is unregistered.
 fn adds_what_is_prepared(alloc: Global, routes: &mut RouteTable) -> Option<bool> {
     let name = numbered(alloc, 1)?;
     takes_prepared_hop(routes, name.view())
 }
 
 /// Registers two routes of this name with the same face and origin. Returns whether the second
-/// route replaces the first route, or leaves the first route unchanged if memory runs out.
+/// route replaces the first route. If memory runs out, returns whether the first route is
+/// unchanged.
 fn keeps_one_route(routes: &mut RouteTable, name: Name<'_>) -> Option<bool> {
     let mut route = Route::new(2, 0);
     route.cost = 5;
@@ -284,8 +285,9 @@ fn keeps_one_route(routes: &mut RouteTable, name: Name<'_>) -> Option<bool> {
     Some(hop.cost == cost && routes.read().len() == 1)
 }
 
-/// Returns whether registering a route leaves an older route with the same name, face and origin
-/// unchanged if memory runs out.
+/// Registers a route that has the same name, face and origin as an older route. If memory runs out,
+/// returns whether the older route is unchanged. Otherwise returns whether the new route replaces
+/// the older route.
 fn leaves_the_older_route(alloc: Global, routes: &mut RouteTable) -> Option<bool> {
     let name = numbered(alloc, 1)?;
     keeps_one_route(routes, name.view())
