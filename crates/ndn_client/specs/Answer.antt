@@ -32,7 +32,8 @@ use Rattle.ndn_requests.specs.Parameters.{command_name, IsTooLong}
 
 -- ---- the key
 
--- the signature is an HMAC whose key has this name in the book, and the signature names this key
+-- the signature is an HMAC and names the key `name`; the book has the key of the HMAC under this
+-- name
 abbrev pub IsHmac : List Field → List NamedKey → Sign → Type 0
 IsHmac name book Digest = ⊥
 IsHmac name book (Hmac key_name key) = (components key_name ≡ name) × IsAmong (name, key.now) book
@@ -102,7 +103,7 @@ pub record AsksCommand (job : CommandJob) (book : List NamedKey) (w : InterestWr
 
 -- ---- answers
 
--- the Interest that the job asks for
+-- the packet of the job's Interest
 abbrev pub IsInterestPacket : InterestJob → List NamedKey → List ℕ → Type 0
 IsInterestPacket job book packet =
     (w : InterestWriter) × AsksInterest job book w × (interest_refusal w ≡ None)
@@ -155,7 +156,7 @@ with_file (Some path) book = Some book
 abbrev pub keys_given : ExplainJob → List NamedKey → Option (List NamedKey)
 keys_given job book = with_file job.keys book
 
--- the explanation of the packet that is given as an argument; an empty text if no packet is given,
+-- the explanation of the packet that is given as an argument; if no packet is given, an empty text,
 -- since packets on standard input are explained while they are read
 abbrev pub IsPacketExplained : Option (List NamedKey) → Option (List ℕ) → List ℕ → Type 0
 IsPacketExplained keys None text = text ≡ []

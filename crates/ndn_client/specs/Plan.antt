@@ -34,7 +34,7 @@ input_form (job.Explain asked) = if is_none asked.packet then Lines else Nothing
 input_form (job.Send asked) = if is_none asked.packet then Packet else Nothing
 input_form asked = Nothing
 
--- the ports that the job's packet is sent to and from; no ports if the job sends no packet
+-- the destination port and the source port of the job's packet; no ports if the job sends no packet
 abbrev pub ports_of : Job → Ports
 ports_of (job.Command asked) = asked.stamp.ports
 ports_of (job.Ask asked) = asked.ports
@@ -52,8 +52,8 @@ abbrev pub IsExplained : Bool → ExplainJob → List NamedKey → List ℕ → 
 IsExplained true asked book input text = IsExplainedInput (keys_given asked book) input text
 IsExplained false asked book input text = IsAnswer (job.Explain asked) book text
 
--- the text that is printed: the explained lines if the job explains standard input, and otherwise
--- the answer to the job
+-- the text that is printed: if the job explains standard input, the explanation of the lines, and
+-- otherwise the answer to the job
 abbrev pub IsPrinted : Job → List NamedKey → List ℕ → List ℕ → Type 0
 IsPrinted (job.Explain asked) book input text =
     IsExplained (is_none asked.packet) asked book input text

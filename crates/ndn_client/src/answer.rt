@@ -59,7 +59,7 @@ fn interest_text(alloc: Global, job: &InterestJob, book: &KeyBook) -> Result<Vec
     Ok(hex_line(alloc, &packet)?)
 }
 
-/// Returns the packet of the Interest that a job asks for, given the keys of the job's key file.
+/// Returns the packet of a job's Interest, given the keys of the job's key file.
 pub fn interest_packet(
     alloc: Global,
     job: &InterestJob,
@@ -114,7 +114,7 @@ fn command_text(alloc: Global, job: &CommandJob, book: &KeyBook) -> Result<Vec<u
     Ok(hex_line(alloc, &packet)?)
 }
 
-/// Returns the packet of the command that a job asks for, given the keys of the job's key file.
+/// Returns the packet of a job's command, given the keys of the job's key file.
 pub fn command_packet(alloc: Global, job: &CommandJob, book: &KeyBook) -> Result<Vec<u8>, ToolFault>
     ensures { MatchResult result
         (λ packet. IsCommandPacket job.now book.now packet.items)

@@ -44,9 +44,9 @@ pub enum Fault {
         /// The port on 127.0.0.1.
         port: u16,
     },
-    /// The packet of the subcommand `send`, which is sent unchanged, got no answer.
+    /// No answer came to the packet of the subcommand `send`, which is sent unchanged.
     Silent(Silence),
-    /// A request was sent, but it was not carried out, or no answer to it came.
+    /// A request was sent. It was not carried out, or no answer came.
     NotDone(Failure),
 }
 
@@ -55,10 +55,10 @@ impl Fault {
     ghost use Rattle.ndn_client.specs.Fault.{status_of};
 
     /// Returns the exit status. For `Tool`, the exit status is that of the job's fault. For any
-    /// other fault, the exit status is 1 if a key but no key file is named, the content of the key
-    /// file has a fault, or a request was not done. The exit status is 2 if an argument is not
-    /// UTF-8. The exit status is 3 if reading, writing or sending failed, a port could not be
-    /// bound, memory ran out, or no answer came to the packet of `send`.
+    /// other fault, the exit status is 1 if a key is named without a key file, if the content of
+    /// the key file has a fault, or if a request was not done. The exit status is 2 if an argument
+    /// is not UTF-8. The exit status is 3 if reading, writing or sending failed, if a port could
+    /// not be bound, if memory ran out, or if no answer came to the packet of `send`.
     pub fn exit_status(&self) -> u8
         ensures { result ≡ status_of self.now }
     {

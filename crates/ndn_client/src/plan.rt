@@ -44,8 +44,8 @@ pub fn input_form(job: &Job) -> InputForm
     }
 }
 
-/// Returns what the program must do for a job, given the keys of the job's key file. `input` is the
-/// text, or one line, of standard input if the job reads standard input.
+/// Returns what the program must do for a job, given the keys of the job's key file. If the job
+/// reads standard input, `input` is the text of standard input or one of its lines.
 ///
 /// Each error except `Memory` has its cause in the job, in the keys or in the input. `Usage` is
 /// returned only if the job reads a packet from standard input and `input` does not spell octets in
@@ -69,7 +69,8 @@ pub fn plan_of(alloc: Global, job: &Job, book: &KeyBook, input: &str) -> Result<
     }
 }
 
-/// Returns the ports that the job's packet is sent to and from.
+/// Returns the destination port and the source port of the job's packet, or no ports if the job
+/// sends no packet.
 fn ports_of(job: &Job) -> Ports
     ensures { result ≡ ports_of job.now }
 {
@@ -113,7 +114,7 @@ fn printed(alloc: Global, job: &Job, book: &KeyBook, input: &str) -> Result<Vec<
     }
 }
 
-/// Returns the request of a job that sends a packet, or no octets for a job of a kind that never
+/// Returns the request of a job that sends a packet. Returns no octets if a job of this kind never
 /// sends a packet.
 fn request_of(alloc: Global, job: &Job, book: &KeyBook, input: &str) -> Result<Vec<u8>, ToolFault>
     ensures { MatchResult result (IsRequest job.now book.now input.now)
@@ -127,8 +128,8 @@ fn request_of(alloc: Global, job: &Job, book: &KeyBook, input: &str) -> Result<V
     }
 }
 
-/// Returns the packet of `send`: the packet that is given or, if none is given, the packet in
-/// `input`.
+/// Returns the packet of the subcommand `send`: the given packet, or the packet in `input` if no
+/// packet is given.
 fn sent_packet(alloc: Global, job: &SendJob, input: &str) -> Result<Vec<u8>, ToolFault>
     ensures { MatchResult result (IsSent job.now input.now)
         (IsNotSent job.now input.now) }

@@ -34,7 +34,7 @@ enum Missed {
     Clock,
 }
 
-/// Runs the job of the command line and prints its answer.
+/// Runs the job of the command line, and prints the job's answer.
 ///
 /// # Errors
 ///
@@ -95,7 +95,7 @@ where
     }
 }
 
-/// Sends the first request of the exchange and the requests that follow it, and prints the answer.
+/// Sends the requests of the exchange one after another, and prints the answer.
 fn run_exchange<R: Clock + AllocGlobal + Eprint + Net + Print>(
     rt: &R,
     exchange: Exchange,
@@ -105,8 +105,8 @@ fn run_exchange<R: Clock + AllocGlobal + Eprint + Net + Print>(
     exchange_on(rt, &socket, exchange, book)
 }
 
-/// Runs the exchange on this socket: sends its requests one after another, and prints the answer.
-/// The answer to each request must arrive within 4 seconds.
+/// Runs the exchange on this socket: sends the requests of the exchange one after another, and
+/// prints the answer. The answer to each request must arrive within 4 seconds.
 ///
 /// # Errors
 ///

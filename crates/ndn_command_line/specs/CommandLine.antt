@@ -233,7 +233,7 @@ tool = record {
 
 -- ---- the commands that are built
 
--- `clap` parses the command as `app`, and the command has no arguments that its subcommands share
+-- `clap` parses the command by the rules `app`, and its subcommands do not share its arguments
 abbrev pub HasApp : App → Command → Type 0
 HasApp app command = (app_of command ≡ app) × ((out-Command command).has_globals ≡ false)
 

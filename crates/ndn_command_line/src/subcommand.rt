@@ -298,7 +298,7 @@ fn peek_command<'a>(alloc: Global) -> Result<Command<'a>, AllocError>
     described(alloc, "peek", about, help::PEEK, &arguments)
 }
 
-/// Adds to a command the options of a stamp: time, Nonce, sequence number, key and ports.
+/// Adds the options of a stamp to a command: time, Nonce, sequence number, key and ports.
 fn with_stamp<'a>(alloc: Global, command: Command<'a>) -> Result<Command<'a>, AllocError>
     ensures { (app : App) → HasApp app command.entry → IfOk result (HasApp (stamped app)) }
 {

@@ -18,8 +18,8 @@ use Rattle.ndn_explain.specs.Show.{line}
 
 -- The texts before the values of a line. The line of a route has a name, a face and a cost. The
 -- line of a strategy choice has a name and a strategy. In the layout `Lines`, the text before a
--- value is a word or a space. In the layout `Table`, the text before a value is a tab, or empty
--- before the name.
+-- value is a word or a space. In the layout `Table`, the text before the name is empty, and the
+-- text before any other value is a tab.
 pub record Labels : Type 0 where
   pub route : List ℕ
   pub face : List ℕ
@@ -75,8 +75,8 @@ hop_words layout es =
     number_word (labels_of layout).face (first_of FACE_ID es)
     ++ number_word (labels_of layout).cost (first_of COST es)
 
--- the line of a route, with this name, and with the face and the cost of the next hop in the
--- element; nothing if the element is not a next hop
+-- the line of a route with this name; the element is a next hop, which gives the face and the cost;
+-- nothing for any other element
 abbrev pub hop_line : Layout → List ℕ → Result Field TlvFault → List ℕ
 hop_line layout name (Err fault) = []
 hop_line layout name (Ok e) =

@@ -1,6 +1,7 @@
--- The explanation of a packet for debugging, as lines of text: the lines of `show`, the fields of
--- the packet's SignatureInfo (NDN Packet Format 0.3, "Signature"), whether the signature is right,
--- and the segment, the command, the reply, the dataset entries or the text that the packet carries.
+-- The explanation of a packet for debugging, as lines of text. First come the lines of `show`, the
+-- fields of the packet's SignatureInfo (NDN Packet Format 0.3, "Signature"), and the result of the
+-- signature check. Then come the lines of what the packet carries: a segment, a command, a reply,
+-- dataset entries or a text.
 use Rattle.std.specs.Prelude.{ℕ, List, [], ◌∷◌, ◌++◌, codes, Option, None, Some, ◌==◌, if◌then◌else◌}
 use Rattle.std.specs.List.{list_all}
 use Rattle.std.specs.Option.{option_map}
@@ -30,7 +31,7 @@ info_lines info =
     ++ (optional_line (codes "time") (option_map decimal info.time)
     ++ optional_line (codes "seq") (option_map decimal info.seq))
 
--- the lines of the SignatureInfo, none for an unsigned packet
+-- the lines of the SignatureInfo; no lines for an unsigned packet
 abbrev pub signer_lines : Option PlainSignature → List ℕ
 signer_lines None = []
 signer_lines (Some signature) = info_lines signature.info
@@ -52,7 +53,8 @@ content_lines None = []
 content_lines (Some content) =
     reply_lines content ++ (dataset_lines Lines content ++ text_lines content)
 
--- the lines for the segment number and the Content of the Data `d`, whose octets are `whole`
+-- the lines for the segment number and the Content of the Data `d`; `whole` are the octets of the
+-- Data
 abbrev pub data_meaning : List ℕ → PlainData → List ℕ
 data_meaning whole d = segment_lines d.name whole ++ content_lines d.content
 

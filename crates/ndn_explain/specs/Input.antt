@@ -44,9 +44,9 @@ IsExplainedPacket keys octets said =
     × (said ≡ named_line (codes "malformed") (packet_name why)))
 
 -- The text `said` that is printed for the line `text`. `head` is the text before the hexadecimal
--- digits of the line. If the digits encode at least one octet, `said` consists of `head` as a line
--- of its own, unless `head` is empty, followed by the explanation of the octets. Otherwise `said`
--- is the line itself, or nothing for an empty line.
+-- digits of the line. If the digits encode at least one octet, `said` is the line `head`, followed
+-- by the explanation of the octets. An empty `head` is left out. If the digits encode no octet,
+-- `said` is the line `text` itself, or nothing for an empty line.
 abbrev pub IsExplainedPart : Option (List NamedKey) → List ℕ → List ℕ
     → Result (List ℕ) FromHexError → List ℕ → Type 0
 IsExplainedPart keys text head (Err why) said = said ≡ repeated text
@@ -64,6 +64,6 @@ AreExplained keys (text ∷ texts) said =
     (first : List ℕ) × (others : List ℕ) × IsExplainedLine keys text first
     × AreExplained keys texts others × (said ≡ first ++ others)
 
--- the text printed for all lines of a text, which are separated by LF
+-- `said` is what is printed for the lines of `text`; LF separates the lines
 abbrev pub IsExplainedInput : Option (List NamedKey) → List ℕ → List ℕ → Type 0
 IsExplainedInput keys text said = AreExplained keys (lines_of text) said

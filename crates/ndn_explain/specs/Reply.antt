@@ -24,7 +24,7 @@ written_content name octets =
     (λ content. if bytes_eq octets (reply_text name content) then Some content else None)
     (data_field CONTENT octets)
 
--- a reply as a Data: with this name, this Content and the signature value that is in the octets
+-- a reply as a Data with this name and this Content; the signature value is the one in the octets
 abbrev pub written_data : List Field → List ℕ → List ℕ → PlainData
 written_data name content octets = record {
   name = name;

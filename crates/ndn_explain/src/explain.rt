@@ -147,8 +147,8 @@ fn put_data_meaning(alloc: Global, text: &mut Vec<u8>, packet: &Data<'_>) -> Res
     }
 }
 
-/// Appends the lines of a Content: those of a reply, of the entries of a dataset, or of a text.
-/// Appends nothing for any other Content.
+/// Appends the lines of a Content that is a reply, the entries of a dataset, or a text. Appends
+/// nothing for any other Content.
 pub fn put_content(alloc: Global, text: &mut Vec<u8>, content: &[u8]) -> Result<(), Memory>
     ensures { OnOk result (text.new.items
         ≡ text.old.items ++ content_lines (Some content.now)) }

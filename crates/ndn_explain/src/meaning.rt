@@ -234,7 +234,7 @@ fn put_field(
     Ok(())
 }
 
-/// Appends the text of `value`, which is read as `form` says.
+/// Reads `value` in the form `form`, and appends its text.
 pub fn put_form(alloc: Global, text: &mut Vec<u8>, form: Form, value: &[u8]) -> Result<(), Memory>
     ensures { OnOk result (text.new.items ≡ text.old.items ++ form_text form value.now) }
 {

@@ -38,8 +38,9 @@ pub fn written_content<'a>(
     }
 }
 
-/// Appends the explanation of a reply of any length with this name, Content and octets, without a
-/// signature check. On `Memory`, some of the lines may have been appended.
+/// Appends the explanation of a reply with this name, this Content and these octets. The reply may
+/// have any length, and its signature is not checked. On `Memory`, some of the lines may have been
+/// appended.
 pub fn put_written(
     alloc: Global,
     text: &mut Vec<u8>,

@@ -1,5 +1,5 @@
--- If a repository's prefix has too many components for a verb to follow, the options of `repo`
--- spell no command name.
+-- If a repository's prefix has too many components for a verb to follow, the options of the
+-- subcommand `repo` spell no command name.
 use Rattle.std.proofs.Common.{◌≡◌, ◌≢◌, ◌⊎◌, ◌≤◌, ℕ, List, [], ◌∷◌, ◌++◌, length, Bool, true, false, refl, Option, Some, Ok, Err, sym, ap, subst, ◌∙◌, arith, inl, inr, codes}
 use Rattle.std.specs.Prelude.{nat_lt, if◌then◌else◌}
 use Rattle.std.proofs.lemmas.List.{length-append}

@@ -7,8 +7,8 @@ use Rattle.ndn_jobs.specs.Value.{IsUsage, IsWrong, IsRefused, ReadsInMemory}
 use Rattle.ndn_jobs.specs.Options.{Has, MayHave}
 
 -- In this module, some value satisfies `Part` if some value satisfies `Whole`. So if no value
--- satisfies `Part`, no value satisfies `Whole`. A fault that `IsWrong` or `IsRefused` allows for
--- `Part` is then also allowed for `Whole`.
+-- satisfies `Part`, no value satisfies `Whole`. So `IsWrong` and `IsRefused` allow for `Whole` each
+-- fault that they allow for `Part`.
 
 module _ {A B : Type 0} (Part : A → Type 0) (Whole : B → Type 0) (part : (y : B) → Whole y → (x : A) × Part x) where
   none_whole : ((x : A) → Part x → ⊥) → (y : B) → Whole y → ⊥

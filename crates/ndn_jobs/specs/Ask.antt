@@ -1,5 +1,5 @@
 -- The jobs of `route list`, `strategy list` and `peek`: an unsigned Interest, and what is printed
--- of the answer. Without a port to send to, the Interest itself is printed.
+-- of the answer. If no destination port is given, the Interest itself is printed.
 use Rattle.std.specs.Prelude.{◌≡◌, ℕ, List, Option, None, Some, Bool, true, false, is_none, ◌&&◌, codes, bytes_eq, if◌then◌else◌}
 use Rattle.clap.specs.Walk.{Row}
 use Rattle.ndn_names.specs.ReadsAs.{ReadsAs}
@@ -39,8 +39,8 @@ is_list rows = is_word (codes "list") (value_at rows (codes "VERB"))
 abbrev pub lacks : List Row → List ℕ → Bool
 lacks rows id = is_none (value_at rows id)
 
--- whether none of the arguments below is given; with `list`, only the options for the Nonce and for
--- the ports are allowed
+-- whether the arguments suit the verb `list`; this verb allows the options for the Nonce and for
+-- the ports, and no other arguments
 abbrev pub is_alone : List Row → Bool
 is_alone rows =
     lacks rows (codes "PREFIX") && lacks rows (codes "face") && lacks rows (codes "cost")

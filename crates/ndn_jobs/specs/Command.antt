@@ -1,4 +1,4 @@
--- What the arguments of a command line ask for, and which arguments are refused.
+-- The job of a command line, and which command lines are refused.
 use Rattle.std.specs.Prelude.{◌≡◌, ◌⊎◌, ℕ, true, false, List, [], drop, Option, None, Some, Result, Ok, Err, ⊤}
 use Rattle.clap.specs.Walk.{Row}
 use Rattle.clap.specs.Words.{kind_of}
@@ -42,10 +42,10 @@ IsListedJob now words name rows (Ask job) =
     (is_list rows ≡ true) × IsListJob now words name rows job
 IsListedJob now words name rows job = ⊥
 
--- The job that the options `rows` of a subcommand ask for. `name` is the subcommand's name, `now`
+-- The job that the options `rows` of a subcommand describe. `name` is the subcommand's name, `now`
 -- is the time, and `words` are the words of the command line. The subcommands `route`, `strategy`,
--- `cache` and `repo` are short forms of `command`, but `route list` and `strategy list` ask for a
--- list.
+-- `cache` and `repo` are short forms of the subcommand `command`. But `route list` and `strategy
+-- list` request a list.
 abbrev pub IsJobFor : Subcommand → ℕ → List ℕ → List ℕ → List Row → Job → Type 0
 IsJobFor sub.Interest now words name rows (Interest job) = IsLinkJob rows job
 IsJobFor sub.Data now words name rows (Data job) = IsDataJob rows job
@@ -80,7 +80,7 @@ IsJob now words (Some used) job = IsNamedJob now words used.0 used.1 job
 abbrev pub faults : List (List ℕ) → Kinds
 faults arguments = fault_of tool arguments
 
--- the job of the subcommand in these arguments, the first of which is the program's name
+-- the job of the subcommand in these arguments; the first argument is the program's name
 abbrev pub IsJobOf : ℕ → List (List ℕ) → Job → Type 0
 IsJobOf now arguments job =
     IsJob now (words_of (drop 1 arguments)) (subcommand_of tool arguments) job

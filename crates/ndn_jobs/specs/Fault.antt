@@ -29,8 +29,8 @@ tool_status tool.Memory = 3
 abbrev pub out_of_memory : List ℕ
 out_of_memory = codes "error: out of memory\n"
 
--- the message for a bad value; None for any other wrong command line, since the parser makes the
--- message
+-- the message for a bad value; None for any other wrong command line, since the command-line parser
+-- makes its message
 abbrev pub usage_text : Usage → Option (List ℕ)
 usage_text (CommandLine error) = None
 usage_text (BadValue place wanted) =

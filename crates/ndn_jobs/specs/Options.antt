@@ -38,8 +38,8 @@ IsPath value path = string_bytes path ≡ value
 abbrev pub Has : {A : Type 0} → Option (List ℕ) → (List ℕ → A → Type 0) → A → Type 0
 Has value Spells x = (w : List ℕ) × (value ≡ Some w) × Spells w x
 
--- the last argument is None if the option is not given; if the option is given, the last argument
--- is Some of a value that the option spells
+-- either the option is not given, and the last argument is None; or the option spells a value, and
+-- the last argument is `Some` with this value
 abbrev pub MayHave : {A : Type 0} → Option (List ℕ) → (List ℕ → A → Type 0) → Option A → Type 0
 MayHave value Spells None = value ≡ None
 MayHave value Spells (Some x) = Has value Spells x
@@ -70,7 +70,7 @@ pub record IsKeyChoice (rows : List Row) (choice : KeyChoice) : Type 0 where
   pub keys : MayHave (value_at rows (codes "keys")) IsPath choice.keys
   pub key : MayHave (value_at rows (codes "key")) ReadsAs choice.key
 
--- the ports that a packet is sent to and from; a port to send from requires a port to send to
+-- the destination port and the source port of a packet; a source port requires a destination port
 pub record IsPorts (target source : Option (List ℕ)) (ports : Ports) : Type 0 where
   pub to : MayHave target IsPort ports.to
   pub from : MayHave source IsPort ports.from

@@ -19,8 +19,8 @@ is_repository_verb word =
 abbrev pub IsRepositoryVerb : List ℕ → List ℕ → Type 0
 IsRepositoryVerb word verb = (verb ≡ word) × (is_repository_verb word ≡ true)
 
--- the name of the command: the prefix of the repository and then the verb as one component, with at
--- most 64 components in all
+-- the name of the command: the prefix of the repository, followed by the verb as one component; the
+-- name has at most 64 components
 pub record IsRepositoryName (rows : List Row) (name : List Field) : Type 0 where
   pub verb : List ℕ
   pub prefix : List Field
@@ -41,8 +41,8 @@ pub record AreRepositoryParameters (rows : List Row) (p : Parameters) : Type 0 w
   pub can_be_prefix : IsFlag (flag_at rows (codes "can-be-prefix")) p.can_be_prefix
   pub lifetime : MayHave (value_at rows (codes "lifetime")) IsNumber p.lifetime
 
--- the command that the options of `repo` ask for, at the time `now`; `words` are the words of the
--- command line
+-- the command that the options of the subcommand `repo` describe at the time `now`; `words` are the
+-- words of the command line
 pub record IsRepositoryJob (now : ℕ) (words : List ℕ) (rows : List Row) (job : CommandJob)
     : Type 0 where
   pub name : IsRepositoryName rows job.name

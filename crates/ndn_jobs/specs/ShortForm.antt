@@ -1,5 +1,5 @@
--- The short forms of the node's commands: the action that each short form stands for, and the
--- parameters that the short form's options give.
+-- The short forms of the node's commands: the action of each short form, and the parameters that
+-- its options give.
 use Rattle.std.specs.Prelude.{◌≡◌, ℕ, List, Option, None, Some, Bool, true, false, is_some, is_none, ◌&&◌, ◌||◌, codes, find, bytes_eq}
 use Rattle.clap.specs.Walk.{Row}
 use Rattle.ndn_names.specs.ReadsAs.{ReadsAs}
@@ -17,7 +17,7 @@ use Rattle.ndn_jobs.specs.Nonce.{nonce_of}
 
 -- ---- the words of the short forms
 
--- whether the subcommand and the verb are these two words
+-- whether the subcommand is the word `first`, and the verb is the word `second`
 abbrev pub words_are : List ℕ → List ℕ → List ℕ → List ℕ → Bool
 words_are subcommand verb first second = bytes_eq subcommand first && bytes_eq verb second
 
@@ -40,13 +40,13 @@ action_of subcommand verb = find (is_named subcommand verb) actions
 abbrev pub IsVerb : List ℕ → List ℕ → Action → Type 0
 IsVerb subcommand verb action = action_of subcommand verb ≡ Some action
 
--- whether the value of an option is allowed: the option is absent, or the command has the field of
--- this type
+-- whether the value of an option is allowed: the option is absent, or the action's command has a
+-- field of the type `kind`
 abbrev pub may_give : Action → ℕ → Option (List ℕ) → Bool
 may_give action kind value = takes kind (row_of action) || is_none value
 
--- whether the options suit a command on routes: a face is given, and each of the options `cost`,
--- `origin`, `flags` and `expires` that is given belongs to a field of the command
+-- whether the options suit a command on routes: a face is given, and the command has a field for
+-- each given option among `cost`, `origin`, `flags` and `expires`
 abbrev pub fits_route : Action → List Row → Bool
 fits_route action rows =
     is_some (value_at rows (codes "face"))
@@ -55,8 +55,8 @@ fits_route action rows =
     && may_give action FLAGS (value_at rows (codes "flags"))
     && may_give action EXPIRATION_PERIOD (value_at rows (codes "expires"))
 
--- whether the options suit the verb: the verb allows all options that are given, and all options
--- that the verb requires are given
+-- whether the options suit the verb: the verb allows all given options, and no required option is
+-- missing
 abbrev pub fits : Action → List Row → Bool
 fits AddNexthop rows = fits_route AddNexthop rows
 fits RemoveNexthop rows = fits_route RemoveNexthop rows
@@ -97,7 +97,7 @@ pub record IsFormJob (action : Action) (now : ℕ) (words : List ℕ) (rows : Li
   pub parameters : AreShortParameters rows job.parameters
   pub stamp : IsShortStamp now words rows job.stamp
 
--- the command that the options of the subcommand with this name ask for
+-- the command that the options describe, for the subcommand with this name
 abbrev pub IsShortJob : ℕ → List ℕ → List ℕ → List Row → CommandJob → Type 0
 IsShortJob now words subcommand rows job =
     (action : Action) × Has (value_at rows (codes "VERB")) (IsVerb subcommand) action

@@ -1,4 +1,4 @@
-//! The job that the words of a command line ask for.
+//! Reading the words of a command line as a job.
 ghost use Rattle.std.specs.Prelude.{◌≡◌, drop, map, option_map, MatchResult};
 ghost use Rattle.clap.specs.Words.{kind_of, subcommand_rows_of};
 ghost use Rattle.ndn_jobs.specs.Value.{IsUsage, ReadsInMemory};
@@ -72,7 +72,7 @@ fn used<'a, 'm>(matches: &'m ArgMatches<'a>) -> Option<(&'a str, &'m ArgMatches<
     matches.subcommand()
 }
 
-/// Returns the job that the options of the subcommand with this name ask for.
+/// Returns the job that the options describe, for the subcommand with this name.
 fn named_job(
     alloc: Global,
     name: &str,
@@ -88,7 +88,7 @@ fn named_job(
     }
 }
 
-/// Returns the job that the options of `subcommand` ask for, where `name` is the subcommand's name.
+/// Returns the job that the options of `subcommand` describe. `name` is the subcommand's name.
 fn job_for(
     alloc: Global,
     subcommand: Subcommand,

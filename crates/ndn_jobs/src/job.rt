@@ -28,7 +28,8 @@ pub enum Job {
     Interest(LinkJob),
     /// Write a Data.
     Data(DataJob),
-    /// Write a command. Send the command if there is a port to send it to, and otherwise print it.
+    /// Write a command. If a destination port is given, send the command. Otherwise print the
+    /// command.
     Command(CommandJob),
     /// Compute the HMAC of some octets.
     Tag(TagJob),
@@ -38,17 +39,17 @@ pub enum Job {
     Explain(ExplainJob),
     /// Send a packet, and print the first datagram that comes back.
     Send(SendJob),
-    /// Send an Interest, and print what its answer contains. Without a port to send to, print the
-    /// Interest.
+    /// Send an Interest, and print what its answer contains. If no destination port is given, print
+    /// the Interest.
     Ask(AskJob),
 }
 
-/// The ports of 127.0.0.1 that a packet is sent to and from.
+/// The destination port and the source port of a packet, both at 127.0.0.1.
 #[derive(Clone, Copy, Debug)]
 pub struct Ports {
-    /// The port that the packet is sent to. `None` means that the packet is printed.
+    /// The destination port. `None` means that the packet is printed.
     pub to: Option<u16>,
-    /// The port that the packet is sent from. `None` means that the system chooses a port.
+    /// The source port. `None` means that the system chooses a port.
     pub from: Option<u16>,
 }
 
@@ -151,9 +152,9 @@ pub struct ExplainJob {
 pub struct SendJob {
     /// The packet. `None` means that the packet is read from standard input.
     pub packet: Option<Vec<u8>>,
-    /// The port of 127.0.0.1 that the packet is sent to.
+    /// The destination port at 127.0.0.1.
     pub to: u16,
-    /// The port that the packet is sent from. `None` means that the system chooses a port.
+    /// The source port. `None` means that the system chooses a port.
     pub from: Option<u16>,
 }
 
@@ -188,7 +189,8 @@ impl InterestJob {
     ghost use Rattle.ndn_jobs.specs.Value.{ReadsInMemory};
     ghost use Rattle.ndn_jobs.specs.Options.{rows_in, IsInterestJob};
 
-    /// Returns the Interest that the options of `interest` ask for, without the PIT token.
+    /// Returns the Interest that the options of the subcommand `interest` describe, without the PIT
+    /// token.
     pub fn read(alloc: Global, options: &ArgMatches<'_>) -> Result<InterestJob, ToolFault>
         ensures { ReadsInMemory (IsInterestJob (rows_in options.now)) result }
     {
@@ -211,7 +213,8 @@ impl LinkJob {
     ghost use Rattle.ndn_jobs.specs.Value.{ReadsInMemory};
     ghost use Rattle.ndn_jobs.specs.Options.{rows_in, IsLinkJob};
 
-    /// Returns the Interest and the PIT token that the options of `interest` ask for.
+    /// Returns the Interest and the PIT token that the options of the subcommand `interest`
+    /// describe.
     pub fn read(alloc: Global, options: &ArgMatches<'_>) -> Result<LinkJob, ToolFault>
         ensures { ReadsInMemory (IsLinkJob (rows_in options.now)) result }
     {
@@ -226,7 +229,7 @@ impl DataJob {
     ghost use Rattle.ndn_jobs.specs.Value.{ReadsInMemory};
     ghost use Rattle.ndn_jobs.specs.Options.{rows_in, IsDataJob};
 
-    /// Returns the Data that the options of `data` ask for.
+    /// Returns the Data that the options of the subcommand `data` describe.
     pub fn read(alloc: Global, options: &ArgMatches<'_>) -> Result<DataJob, ToolFault>
         ensures { ReadsInMemory (IsDataJob (rows_in options.now)) result }
     {
@@ -245,7 +248,7 @@ impl CommandJob {
     ghost use Rattle.ndn_jobs.specs.ShortForm.{IsFormJob, IsShortJob};
     ghost use Rattle.ndn_jobs.specs.RepositoryForm.{IsRepositoryJob};
 
-    /// Returns the command that the options of `command` ask for.
+    /// Returns the command that the options of the subcommand `command` describe.
     pub fn read(alloc: Global, options: &ArgMatches<'_>) -> Result<CommandJob, ToolFault>
         ensures { ReadsInMemory (IsCommandJob (rows_in options.now)) result }
     {
@@ -256,8 +259,8 @@ impl CommandJob {
         })
     }
 
-    /// Returns the command that a short form asks for. The short form is the subcommand with this
-    /// name and these options. If no time is given, the time is `now`. If no Nonce is given, the
+    /// Returns the command of a short form. The short form consists of the subcommand with this
+    /// name, and these options. If no time is given, the time is `now`. If no Nonce is given, the
     /// Nonce is computed from the time and the words of the command line.
     pub fn read_short(
         alloc: Global,
@@ -273,9 +276,9 @@ impl CommandJob {
         CommandJob::read_form(alloc, action, options, now, words)
     }
 
-    /// Returns the command that the options of `repo` ask for. If no time is given, the time is
-    /// `now`. If no Nonce is given, the Nonce is computed from the time and the words of the
-    /// command line.
+    /// Returns the command that the options of the subcommand `repo` describe. If no time is given,
+    /// the time is `now`. If no Nonce is given, the Nonce is computed from the time and the words
+    /// of the command line.
     pub fn read_repository(
         alloc: Global,
         options: &ArgMatches<'_>,
@@ -291,7 +294,7 @@ impl CommandJob {
         })
     }
 
-    /// Returns the command of a short form, given its action.
+    /// Returns the command of a short form, given the command's action.
     fn read_form(
         alloc: Global,
         action: Action,
@@ -310,7 +313,7 @@ impl CommandJob {
     }
 }
 
-/// Returns the parameters that the options of `command` spell.
+/// Returns the parameters that the options of the subcommand `command` spell.
 fn parameters(alloc: Global, options: &ArgMatches<'_>) -> Result<Parameters, ToolFault>
     ensures { ReadsInMemory (AreParameters (rows_in options.now)) result }
 {
@@ -346,7 +349,7 @@ fn short_parameters(alloc: Global, options: &ArgMatches<'_>) -> Result<Parameter
     })
 }
 
-/// Returns the parameters that the options of `repo` spell.
+/// Returns the parameters that the options of the subcommand `repo` spell.
 fn repository_parameters(alloc: Global, options: &ArgMatches<'_>) -> Result<Parameters, ToolFault>
     ensures { ReadsInMemory (AreRepositoryParameters (rows_in options.now)) result }
 {
@@ -369,7 +372,7 @@ impl Stamp {
     ghost use Rattle.ndn_jobs.specs.Options.{rows_in, IsStamp};
     ghost use Rattle.ndn_jobs.specs.ShortForm.{IsShortStamp};
 
-    /// Returns the stamp that the options of `command` spell.
+    /// Returns the stamp that the options of the subcommand `command` spell.
     fn read(alloc: Global, options: &ArgMatches<'_>) -> Result<Stamp, ToolFault>
         ensures { ReadsInMemory (IsStamp (rows_in options.now)) result }
     {
@@ -412,9 +415,9 @@ impl Ports {
     ghost use Rattle.ndn_jobs.specs.Value.{Reads};
     ghost use Rattle.ndn_jobs.specs.Options.{rows_in, value_at, IsPorts};
 
-    /// Returns the ports that the options spell. The option with the id `id` spells the port to
-    /// send to, and the option `from` spells the port to send from. The option `from` is refused if
-    /// the option for the port to send to is not given.
+    /// Returns the ports that the options spell. The option with the id `id` spells the destination
+    /// port. The option `from` spells the source port. The option `from` is refused if no
+    /// destination port is given.
     fn read(options: &ArgMatches<'_>, id: &'static str) -> Result<Ports, ToolFault>
         ensures { Reads (IsPorts (value_at (rows_in options.now) id.now)
             (value_at (rows_in options.now) (codes "from"))) result }
@@ -434,8 +437,8 @@ impl AskJob {
     ghost use Rattle.ndn_jobs.specs.Options.{rows_in};
     ghost use Rattle.ndn_jobs.specs.Ask.{IsListJob, IsPeekJob};
 
-    /// Returns the job of the verb `list`: an Interest for the list of the subcommand with this
-    /// name. If no Nonce is given, the Nonce is computed from the time and the words of the command
+    /// Returns the job of the subcommand with this name and of the verb `list`: an Interest for a
+    /// list. If no Nonce is given, the Nonce is computed from the time and the words of the command
     /// line.
     pub fn read_list(
         alloc: Global,
@@ -477,9 +480,9 @@ impl AskJob {
         })
     }
 
-    /// Returns what the options of `peek` ask for: the Interest, what is printed of the answer, and
-    /// the ports. If no Nonce is given, the Nonce is computed from the time and the words of the
-    /// command line.
+    /// Returns the job that the options of the subcommand `peek` describe: the Interest, what is
+    /// printed of the answer, and the ports. If no Nonce is given, the Nonce is computed from the
+    /// time and the words of the command line.
     pub fn read_peek(
         alloc: Global,
         options: &ArgMatches<'_>,
@@ -540,8 +543,8 @@ pub fn is_list(options: &ArgMatches<'_>) -> bool
     }
 }
 
-/// Returns whether none of the arguments below is given. With `list`, only the options for the
-/// Nonce and for the ports are allowed.
+/// Returns whether the arguments suit the verb `list`. This verb allows the options for the Nonce
+/// and for the ports, and no other arguments.
 fn is_alone(options: &ArgMatches<'_>) -> bool
     ensures { result ≡ is_alone (rows_in options.now) }
 {
@@ -568,7 +571,7 @@ impl TagJob {
     ghost use Rattle.ndn_jobs.specs.Value.{ReadsInMemory};
     ghost use Rattle.ndn_jobs.specs.Options.{rows_in, IsTagJob};
 
-    /// Returns the octets and the key that the options of `tag` give.
+    /// Returns the octets and the key that the options of the subcommand `tag` give.
     pub fn read(alloc: Global, options: &ArgMatches<'_>) -> Result<TagJob, ToolFault>
         ensures { ReadsInMemory (IsTagJob (rows_in options.now)) result }
     {
@@ -584,7 +587,7 @@ impl ExplainJob {
     ghost use Rattle.ndn_jobs.specs.Value.{ReadsInMemory};
     ghost use Rattle.ndn_jobs.specs.Options.{rows_in, IsExplainJob};
 
-    /// Returns the packets and the key file that the options of `explain` give.
+    /// Returns the packets and the key file that the options of the subcommand `explain` give.
     pub fn read(alloc: Global, options: &ArgMatches<'_>) -> Result<ExplainJob, ToolFault>
         ensures { ReadsInMemory (IsExplainJob (rows_in options.now)) result }
     {
@@ -599,7 +602,7 @@ impl SendJob {
     ghost use Rattle.ndn_jobs.specs.Value.{ReadsInMemory};
     ghost use Rattle.ndn_jobs.specs.Options.{rows_in, IsSendJob};
 
-    /// Returns the packet and the ports that the options of `send` give.
+    /// Returns the packet and the ports that the options of the subcommand `send` give.
     pub fn read(alloc: Global, options: &ArgMatches<'_>) -> Result<SendJob, ToolFault>
         ensures { ReadsInMemory (IsSendJob (rows_in options.now)) result }
     {

@@ -1,4 +1,4 @@
-//! Reads the words of a command line as a job, or returns a fault if the words ask for no job.
+//! Reads the words of a command line as a job, or returns a fault if the words describe no job.
 #![tactic(auto)]
 
 mod command;

@@ -12,7 +12,7 @@ use crate::options;
 use clap::ArgMatches;
 use mgmt_core::Action;
 
-/// Returns the action that the subcommand and the verb in the options stand for.
+/// Returns the action that is named by the subcommand and by the verb in the options.
 pub fn action_in(subcommand: &str, options: &ArgMatches<'_>) -> Result<Action, ToolFault>
     ensures { Reads
         (Has (value_at (rows_in options.now) (codes "VERB")) (IsVerb subcommand.now)) result }
@@ -48,8 +48,7 @@ fn is_named(action: Action, subcommand: &str, verb: &str) -> bool
     }
 }
 
-/// Returns the action that the subcommand and the verb stand for, or `None` if there is no such
-/// action.
+/// Returns the action with this subcommand and this verb, or `None` if there is no such action.
 fn action_of(subcommand: &str, verb: &str) -> Option<Action>
     ensures { result ≡ action_of subcommand.now verb.now }
 {
@@ -77,8 +76,7 @@ fn action_of(subcommand: &str, verb: &str) -> Option<Action>
     None
 }
 
-/// Checks that the verb allows all options that are given, and that all options that the verb
-/// requires are given.
+/// Checks that the verb allows all given options, and that no required option is missing.
 pub fn check_fit(action: Action, options: &ArgMatches<'_>) -> Result<(), ToolFault>
     ensures { MatchResult result (λ _. fits action (rows_in options.now) ≡ true)
         (λ why. IsUsage why × (fits action (rows_in options.now) ≡ false)) }
@@ -97,7 +95,8 @@ pub fn check_fit(action: Action, options: &ArgMatches<'_>) -> Result<(), ToolFau
     }
 }
 
-/// Checks that a face is given, and that the command on routes allows all options that are given.
+/// Checks the options of a command on routes: a face is given, and the command has a field for each
+/// given option among `cost`, `origin`, `flags` and `expires`.
 fn check_route(action: Action, options: &ArgMatches<'_>) -> Result<(), ToolFault>
     ensures { MatchResult result (λ _. fits_route action (rows_in options.now) ≡ true)
         (λ why. IsUsage why × (fits_route action (rows_in options.now) ≡ false)) }
@@ -135,7 +134,8 @@ fn takes_origin(action: Action) -> bool
     matches!(action, Action::Register | Action::Unregister)
 }
 
-/// Returns whether the action allows flags and an expiration period.
+/// Returns whether the action allows flags and an expiration period. Each action allows both fields
+/// or neither of them.
 fn is_register(action: Action) -> bool
     ensures flags { result ≡ takes FLAGS (row_of action) }
     ensures expires { result ≡ takes EXPIRATION_PERIOD (row_of action) }
@@ -143,8 +143,8 @@ fn is_register(action: Action) -> bool
     action == Action::Register
 }
 
-/// Returns the URI of the strategy that the word `best-route` or `multicast` stands for. Returns
-/// any other word unchanged.
+/// If the word is `best-route` or `multicast`, returns the URI of this strategy. Returns any other
+/// word unchanged.
 pub fn strategy_uri(word: &str) -> &str
     ensures { result.now ≡ strategy_uri word.now }
 {

@@ -60,15 +60,15 @@ node_name action = node_path (row_of action).part (row_of action).verb
 abbrev pub kinds : Parameters → List ℕ
 kinds p = map (λ (f : Field). f.0) (node_fields p)
 
--- whether the parameters suit the command: the command allows the name and every field that is
--- present, and all fields that the command requires are present
+-- whether the parameters suit the command: the command allows every field that is present,
+-- including the name, and no required field is missing
 abbrev pub suits : Action → Parameters → Bool
 suits action p =
     list_all (λ kind. takes kind (row_of action)) (kinds p)
     && list_all (λ kind. has kind (kinds p)) (row_of action).needs
     && not (is_root p.name && not (row_of action).takes_root)
 
--- the command that these parameters ask for; an absent face, origin or cost is 0, and absent flags
+-- the command that these parameters describe; an absent face, origin or cost is 0, and absent flags
 -- are child-inherit
 abbrev pub asked_of : Action → Parameters → PlainCommand
 asked_of action p = record {

@@ -42,8 +42,8 @@ IsRequest name nonce packet =
     (w : InterestWriter) × AsksPlainly name nonce w × (interest_refusal w ≡ None)
     × (packet ≡ interest_text w)
 
--- the reason why the Interest with this name and Nonce, and with no other fields, cannot be
--- written; the reason `Memory` is always allowed
+-- The reason why an Interest cannot be written. The Interest has this name and this Nonce, and no
+-- other fields. The reason `Memory` is always allowed.
 abbrev pub IsNoRequest : List Field → List ℕ → WriteFault → Type 0
 IsNoRequest name nonce Memory = ⊤
 IsNoRequest name nonce why =
@@ -79,7 +79,8 @@ IsProgress view request datagram (Some outcome) progress =
 
 -- The effect of a Data with a segment. If there is a next segment (`true`), the Content of the Data
 -- is appended to the contents, and the next segment is requested. If there is no next segment
--- (`false`), the exchange is over, and the table of the contents and of this Content is printed.
+-- (`false`), the exchange is over. The table of all contents is printed, and this Content is the
+-- last of them.
 abbrev pub IsStepped : Bool → Exchange → NodeList → ℕ → List ℕ → PlainData → Exchange → Progress
     → Type 0
 IsStepped true old list segment nonce d new progress =
@@ -109,8 +110,8 @@ IsListed old list turn (Ok (ANack reason whole i)) new progress =
 IsListed old list turn (Ok Idle) new progress = (new ≡ old) × (progress ≡ Ignored)
 IsListed old list turn (Err why) new progress = (new ≡ old) × (progress ≡ Ignored)
 
--- whether a request asks for the first segment of a list, and the Nonce of the request; None if
--- the request is not an Interest
+-- the Nonce of a request, and whether the request asks for the first segment of a list; None if the
+-- request is not an Interest
 abbrev pub turn_of : Result PlainFrame PacketFault → Option Turn
 turn_of (Ok (AnInterest whole i)) = Some (record { is_first = i.can_be_prefix; nonce = i.nonce })
 turn_of (Ok (AData whole d)) = None
@@ -161,8 +162,8 @@ IsNextRefusal why frame = ⊥
 
 -- ---- no answer
 
--- Whether a segment with a Content that is not empty has been received. If so, the reason that
--- `silence_in` reports is `Changed`, except if no program listens on the port.
+-- Whether the exchange has received a segment whose Content is not empty. If it has, `silence_in`
+-- reports `Changed`, unless no program listens on the port.
 abbrev pub has_begun : Exchange → Bool
 has_begun x = not (is_nil x.contents.items)
 

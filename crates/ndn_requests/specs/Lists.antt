@@ -29,7 +29,8 @@ in_turn is_first segment last = None
 abbrev pub place_of : Bool → List Field → List ℕ → Option (ℕ × ℕ)
 place_of is_first name whole = in_turn is_first (segment_of name) (last_segment whole)
 
--- the name of the segment that follows the segment with the name `name` and the number `segment`
+-- the name of the next segment; `name` and `segment` are the name and the number of the segment
+-- before it
 abbrev pub next_name : List Field → ℕ → List Field
 next_name name segment =
     take (length name - 1) name ++ (SEGMENT, shortest_nni (segment + 1)) ∷ []

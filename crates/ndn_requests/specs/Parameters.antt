@@ -12,7 +12,7 @@ use Rattle.ndn_packets.specs.declared.command_types.TheConstants.{CONTROL_PARAME
 use Rattle.ndn_packets.specs.declared.types.TheConstants.{NAME, INTEREST_LIFETIME, CAN_BE_PREFIX}
 use Rattle.ndn_requests.specs.declared.parameters.Parameters.{Parameters}
 
--- whether there is a component, and it is a GenericNameComponent with these octets
+-- whether the component is a GenericNameComponent with these octets; false if there is no component
 abbrev pub is_generic : Option Field → List ℕ → Bool
 is_generic None value = false
 is_generic (Some c) value = c.0 == GENERIC && bytes_eq c.1 value

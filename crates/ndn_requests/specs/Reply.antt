@@ -30,8 +30,8 @@ Outcome = Result Unit Failure
 
 -- ---- statuses
 
--- The number in the first field of the type `kind` in a Content that is a single element of the
--- type `response`. The result is None if there is no such element, field or number.
+-- Reads a Content as a single element of the type `response`. The result is the number in the
+-- element's first field of the type `kind`, or None if there is no such element, field or number.
 abbrev pub code_in : ℕ → ℕ → List ℕ → Option ℕ
 code_in response kind content =
     option_and_then (λ value. result_ok (nni_at value))
@@ -51,8 +51,8 @@ abbrev pub has_repository_fields : Option Field → Bool
 has_repository_fields None = false
 has_repository_fields (Some c) = is_some (single REPO_COMMAND_PARAMETER (elements_of c.1))
 
--- whether a command is for a repository, according to the type of its parameters, which are the
--- component before the digest
+-- whether a command is for a repository; the type of its parameters decides, and the parameters are
+-- the component before the digest
 abbrev pub is_of_repository : List Field → Bool
 is_of_repository name = has_repository_fields (slice_get name (length name - 2))
 
@@ -66,8 +66,7 @@ node_outcome None = Err NoStatus
 node_outcome (Some code) = done_if (code == 200)
 
 -- The outcome of a command to a repository, given the status in the reply. Status 200 is a success.
--- Status 100 is a success too if the command is an insert, since the repository then waits for the
--- Data.
+-- For an insert, status 100 is a success too: the repository waits for the Data.
 abbrev pub repository_outcome : List Field → Option ℕ → Outcome
 repository_outcome name None = Err NoStatus
 repository_outcome name (Some code) = done_if (code == 200 || (code == 100 && is_insert name))
@@ -105,8 +104,8 @@ data_outcome asked d check =
     then Some (reply_outcome asked.name d.content) else None)
     else Some (Ok tt)
 
--- whether two Interests have the same name and the same Nonce; a Nack answers a request if its
--- Interest and the request's Interest are the same in this sense
+-- whether two Interests have the same name and the same Nonce; a Nack answers a request if the
+-- Nack's Interest and the request's Interest have the same name and the same Nonce
 abbrev pub is_same : PlainInterest → PlainInterest → Bool
 is_same asked i = is_same_name asked.name i.name && bytes_eq asked.nonce i.nonce
 
@@ -119,8 +118,8 @@ frame_outcome asked (ANack reason whole i) check =
 frame_outcome asked (AnInterest whole i) check = None
 frame_outcome asked Idle check = None
 
--- the outcome of a command whose reply is too long to be read, given the reply's Content; without
--- a Content there is no outcome, since the octets are not exactly a reply that a node writes
+-- The outcome of a command whose reply is too long to be read, given the reply's Content. Without a
+-- Content, the octets are not exactly a reply that a node writes, and there is no outcome.
 abbrev pub written_outcome : List Field → Option (List ℕ) → Option Outcome
 written_outcome name None = None
 written_outcome name (Some content) =
@@ -168,9 +167,9 @@ long_lines (Ok (ANack reason whole i)) datagram = []
 long_lines (Ok Idle) datagram = []
 long_lines (Err why) datagram = []
 
--- The explanation of a datagram that is a packet, or a reply of any length to the request. The
--- explanation has no line for a PIT token or for a signature check. There are no lines for any
--- other datagram.
+-- The explanation of a datagram, if the datagram is a packet or is a reply of any length to the
+-- request. The explanation has no line for a PIT token or for a signature check. There are no lines
+-- for any other datagram.
 abbrev pub explained_lines : List ℕ → List ℕ → Result PlainFrame PacketFault → List ℕ
 explained_lines request datagram (Ok frame) = explanation frame None
 explained_lines request datagram (Err why) = long_lines (frame_at request) datagram
@@ -185,10 +184,10 @@ is_local (Ok (ANack reason whole i)) = false
 is_local (Ok Idle) = false
 is_local (Err why) = false
 
--- Why no answer came to a request that was sent from the port `from`, or from a port that the
--- system chose if `from` is absent. If `is_closed` is true, the reason is `Closed`: no program
--- listens on the destination port. Otherwise the reason is `Far` if `from` is absent and the
--- request's name is under `/localhost`, and `Late` in any other case.
+-- Why no answer came to a request. The request was sent from the port `from`. If `from` is absent,
+-- the system chose the port. If `is_closed` is true, the reason is `Closed`: no program listens on
+-- the destination port. Otherwise the reason is `Far` if `from` is absent and the request's name is
+-- under `/localhost`, and `Late` in any other case.
 abbrev pub silence_of : List ℕ → Option ℕ → Bool → Silence
 silence_of request from is_closed =
     if is_closed then Closed else (

@@ -22,7 +22,7 @@ status_shown status text =
 abbrev pub strategy_shown : StrategyId → List ℕ
 strategy_shown strategy = uri_of (strategy_name strategy)
 
--- the words for the flags of the route that the command asks for
+-- the words for the flags of the requested route
 abbrev pub flags_shown : PlainCommand → List ℕ
 flags_shown c =
     words_of_flags (is_child_inherit (route_asked c 0)) (is_capture (route_asked c 0))

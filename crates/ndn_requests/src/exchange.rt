@@ -39,9 +39,9 @@ pub enum View {
 pub struct Exchange {
     /// The packet to send.
     pub request: Vec<u8>,
-    /// The port of 127.0.0.1 that the packet is sent to.
+    /// The destination port at 127.0.0.1.
     pub to: u16,
-    /// The port that the packet is sent from. `None` means that the system chooses a port.
+    /// The source port. `None` means that the system chooses a port.
     pub from: Option<u16>,
     /// What is printed of the answer.
     pub view: View,
@@ -60,7 +60,7 @@ pub enum Progress {
     Done(Vec<u8>, Outcome),
 }
 
-/// Whether a request asks for the first segment of a list, and the request's Nonce.
+/// The Nonce of a request, and whether the request asks for the first segment of a list.
 #[derive(Clone, Copy)]
 struct Turn {
     /// Whether the request asks for the first segment, whatever the version of the list.
@@ -252,7 +252,7 @@ fn content_in(datagram: &[u8]) -> &[u8]
     }
 }
 
-/// Returns whether the request asks for the first segment of a list, and the request's Nonce.
+/// Returns the request's Nonce, and whether the request asks for the first segment of a list.
 /// Returns `None` if the request is not an Interest.
 fn turn_of(request: &[u8]) -> Option<Turn>
     ensures { result ≡ turn_of (frame_at request.now) }
@@ -281,8 +281,8 @@ fn place_of(is_first: bool, packet: &Data<'_>) -> Option<(u64, u64)>
     Some((segment, last))
 }
 
-/// Returns the name of the segment that follows the segment with the name `name` and the number
-/// `segment`.
+/// Returns the name of the next segment. `name` and `segment` are the name and the number of the
+/// segment before it.
 fn next_name(alloc: Global, name: Name<'_>, segment: u64) -> Result<NameBuf, Memory>
     requires { segment + 1 < 2 ^ 64 }
     ensures { IfOk result (λ next. next ≡ next_name (components name.entry) segment) }

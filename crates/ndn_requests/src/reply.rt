@@ -202,8 +202,9 @@ fn done_if(is_done: bool) -> Outcome
     }
 }
 
-/// Returns the number in the first field of the type `kind` in a Content that is a single element
-/// of the type `response`. Returns `None` if there is no such element, field or number.
+/// Reads the Content as a single element of the type `response`. Returns the number in the
+/// element's first field of the type `kind`, or `None` if there is no such element, field or
+/// number.
 fn code_in(content: &[u8], response: u32, kind: u32) -> Option<u64>
     ensures { result ≡ code_in response kind content.now }
 {
@@ -218,7 +219,8 @@ fn is_insert(name: Name<'_>) -> bool
     is_word(name.component(name.len().saturating_sub(3)), "insert")
 }
 
-/// Returns whether there is a component, and it is a GenericNameComponent with this text.
+/// Returns whether the component is a GenericNameComponent with this text. Returns `false` if there
+/// is no component.
 fn is_word(component: Option<Component<'_>>, word: &str) -> bool
     ensures { result ≡ is_word word.now (option_map field_of component.entry) }
 {
@@ -228,9 +230,9 @@ fn is_word(component: Option<Component<'_>>, word: &str) -> bool
     }
 }
 
-/// Appends the explanation of a datagram that is a packet, or a reply of any length to the request.
-/// The explanation has no line for a PIT token or for a signature check. Appends nothing for any
-/// other datagram. If memory runs out, some of the lines may have been appended.
+/// Appends the explanation of a datagram, if the datagram is a packet or is a reply of any length
+/// to the request. The explanation has no line for a PIT token or for a signature check. Appends
+/// nothing for any other datagram. If memory runs out, some of the lines may have been appended.
 pub fn put_explained(
     alloc: Global,
     text: &mut Vec<u8>,
@@ -277,8 +279,8 @@ fn put_reply(
     }
 }
 
-/// Returns why no answer came to a request that was sent from the port `from`, or from a port that
-/// the system chose if `from` is absent. `is_closed` is true if no program listens on the request's
+/// Returns why no answer came to a request. The request was sent from the port `from`. If `from` is
+/// absent, the system chose the port. `is_closed` is true if no program listens on the request's
 /// destination port.
 pub fn silence_of(request: &[u8], from: Option<u16>, is_closed: bool) -> Silence
     ensures { result ≡ silence_of request.now from is_closed }
