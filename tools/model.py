@@ -37,7 +37,7 @@ class Rule:
         self.identity, self.kind, self.prefix, self.key, self.checks = identity, kind, prefix, key, checks
 
     def reason(self, keys, signature):
-        """Returns the reason for which the rule denies a packet with this signature, or None if it allows the packet.
+        """Returns the reason for which the rule denies a packet with this signature, or None if the rule allows it.
         `keys` maps the names of the known keys to their octets."""
         if not self.checks:
             return "KeyLocator"
@@ -228,8 +228,8 @@ class Node:
         return nonce in others + [one.nonce for one in entry.asked.values()]
 
     def found(self, name, can_be_prefix, must_be_fresh):
-        """Returns the octets of a cached Data that answers, or None. If several Data answer, chooses the one whose full
-        name is first in canonical order."""
+        """Returns the octets of a cached Data that answers such an Interest, or None. If several Data answer, chooses
+        the one whose full name is first in canonical order."""
         best = None
         for data, came in self.cached:
             fresh = not must_be_fresh or self.now < min(came + data.freshness, LAST_MOMENT)
@@ -239,8 +239,8 @@ class Node:
         return None if best is None else best.whole
 
     def stored(self, name, can_be_prefix):
-        """Returns the octets of a stored Data that answers, or None. If several Data answer, chooses the one whose full
-        name is first in canonical order."""
+        """Returns the octets of a stored Data that answers such an Interest, or None. If several Data answer, chooses
+        the one whose full name is first in canonical order."""
         found = [full for full, data in self.objects.items() if g.answers(data, name, can_be_prefix)]
         return self.objects[min(found, key=g.order)].whole if found else None
 
@@ -257,8 +257,8 @@ class Node:
         return [(cost, hop) for cost, hop in hops if hop != asker and not (local_alone and self.up[hop] == "far")]
 
     def forward(self, key, face, interest, token):
-        """Forwards an Interest, or sends it back in a Nack if it has no eligible next hop. `key` is its name and
-        flags."""
+        """Forwards an Interest, or sends it back in a Nack if there is no eligible next hop. `key` is the name
+        and the flags of the Interest."""
         entry = self.pending.get(key, Entry())
         limit = g.hop_limit(interest)
         eligible = self.eligible(key[0], face, limit == 1)

@@ -25,7 +25,7 @@ class Scenario:
     """A node script. `cache` is the number of Data that the node's cache can hold.
 
     `lines` has the events. `expected` has, for each event, the verdict and the faces to which a packet is sent, in
-    order. In a random script it has None for each event.
+    order. In a random script, `expected` has None for each event.
 
     `loses` has the ways in which the cache may lose Data. Each way is a list of lines. If these lines are inserted
     after an event, they remove Data from the cache, and do not change the later answers of the script otherwise.
@@ -51,7 +51,7 @@ class Scenario:
         self.expected.append((verdict, list(faces)))
 
     def up(self, *faces, scope="far"):
-        """Opens faces. Face 1 is local, and all other faces have this scope."""
+        """Opens faces. Face 1 is local, and all other faces have the scope `scope`."""
         for face in faces:
             self.put(f"up {face} {'local' if face == 1 else scope} {self.now}", "passed")
 
@@ -74,36 +74,37 @@ class Scenario:
         return packet
 
     def answer(self, face, of, *faces, **fields):
-        """Adds a Data that arrives on `face` and is allowed by the rule any-data, and returns it. `faces` are the faces
-        to which it is sent."""
+        """Adds a Data, and returns it. The Data arrives on `face`, and the rule any-data allows it. `faces` are the
+        faces to which the Data is sent."""
         packet = p.data(of, **fields)
         self.comes(face, packet, "data any-data", *faces)
         return packet
 
     def order(self, verb, of, face=None, status=200, **fields):
-        """Adds a command to the node that arrives on face 1 and is allowed, and returns it. `status` is the status of
-        the reply."""
+        """Adds a command to the node, and returns it. The command arrives on face 1 and is allowed. `status` is the
+        status of the reply."""
         self.time += 1
         packet = p.command(p.node_name(verb, of, face, **fields), self.nonce(), OPERATOR, self.time)
         self.comes(1, packet, f"allowed {status} ops", 1)
         return packet
 
     def route(self, of, *faces):
-        """Adds a command for each of the faces, which adds a next hop through this face."""
+        """For each of the faces, adds a command that adds a next hop through this face."""
         for face in faces:
             self.order("fib/add-nexthop", of, face)
 
     def store(self, verb, of, status, *faces, **fields):
-        """Adds a command to the repository that arrives on face 1 and is allowed, and returns it. `faces` are the faces
-        to which the node sends its own Interest for the Data."""
+        """Adds a command to the repository, and returns it. The command arrives on face 1 and is allowed. `faces` are
+        the faces to which the node sends its own Interest for the Data."""
         self.time += 1
         packet = p.command(p.repository_name(verb, of, **fields), self.nonce(), SECOND, self.time)
         self.comes(1, packet, f"allowed {status} repo-ops", 1, *faces)
         return packet
 
     def list(self, which="fib", version=None, segment=0, verdict="passed"):
-        """Adds an Interest for the list of routes (`fib`) or of strategies (`strategy`), which arrives on face 1. It
-        asks for a segment of a version, or without a version for the first segment of the current version."""
+        """Adds an Interest for the list of routes (`fib`) or of strategies (`strategy`), which arrives on face 1. The
+        Interest asks for this segment of this version. Without a version it asks for the first segment of the current
+        version."""
         of = p.name(f"/localhost/nfd/{which}{'' if which == 'fib' else '-choice'}/list")
         if version is not None:
             of += (p.integer(p.VERSION, version), p.integer(p.SEGMENT, segment))
@@ -121,8 +122,8 @@ class Scenario:
 
     def may_lose_its_data(self):
         """Adds to `loses` a way in which a cache for one Data loses it: another Data takes its place. The lines of this
-        way do not change the version of the lists. For them, this method opens the faces 60 and 61, and adds a route.
-        Face 1 must be open."""
+        way do not change the version of the lists. The lines need the faces 60 and 61, and a route through face 60. So
+        this method first opens these faces and adds the route. Face 1 must be open."""
         self.up(60, 61)
         other = p.name("/other")
         self.route(other, 60)
@@ -559,8 +560,8 @@ def all_of_them():
 
 
 def random_script(seed):
-    """Returns a script of 40 events. It opens three faces, adds a route, and continues with random events on a few
-    names. Each Interest that is not a command and does not ask for a list has MustBeFresh, and each Data has no
+    """Returns a script of 40 events. The script opens three faces, adds a route, and continues with random events on a
+    few names. Each Interest that is not a command and does not ask for a list has MustBeFresh, and each Data has no
     FreshnessPeriod. So the cache answers no Interest."""
     s, draw = Scenario(f"random script {seed}"), random.Random(seed)
     names = (A, AB, ABC, B, B + A, p.name("/sensors/roof"))
