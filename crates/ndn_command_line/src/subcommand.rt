@@ -118,9 +118,9 @@ fn interest_command<'a>(alloc: Global) -> Result<Command<'a>, AllocError>
         Argument::Optional(
             "hop-limit",
             "N",
-            "How many hops the Interest may travel, at most 255",
+            "The greatest number of hops of the Interest, at most 255",
         ),
-        Argument::Optional("parameters", "HEX", "The application parameters"),
+        Argument::Optional("parameters", "HEX", "The ApplicationParameters"),
         Argument::Optional("time", "N", help::TIME),
         Argument::Optional("seq", "N", help::SEQ),
         Argument::Optional("keys", "FILE", help::KEYS),
@@ -136,11 +136,11 @@ fn data_command<'a>(alloc: Global) -> Result<Command<'a>, AllocError>
 {
     let arguments = [
         Argument::Positional("URI", "The name"),
-        Argument::Optional("content", "HEX", "The content"),
+        Argument::Optional("content", "HEX", "The Content"),
         Argument::Optional(
             "freshness",
             "N",
-            "How long the Data is fresh, in milliseconds",
+            "The FreshnessPeriod of the Data, in milliseconds",
         ),
         Argument::Optional("keys", "FILE", help::KEYS),
         Argument::Optional("key", "URI", help::KEY),
@@ -154,7 +154,7 @@ fn command_command<'a>(alloc: Global) -> Result<Command<'a>, AllocError>
 {
     let arguments = [
         Argument::Positional("URI", "The name of the command"),
-        Argument::Required("name", "URI", "The name that the command is about"),
+        Argument::Required("name", "URI", "The Name in the command's parameters"),
         Argument::Required("nonce", "HEX", "The Nonce, 4 octets"),
         Argument::Required("time", "N", help::TIME),
         Argument::Optional("seq", "N", help::SEQ),
@@ -248,7 +248,7 @@ fn show_command<'a>(alloc: Global) -> Result<Command<'a>, AllocError>
     ensures { IfOk result (HasApp show_app) }
 {
     let arguments = [Argument::Positional("HEX", "The packet, alone or in a link packet")];
-    let about = "Shows what a packet holds";
+    let about = "Shows the fields of a packet";
     described(alloc, "show", about, help::SHOW, &arguments)
 }
 
@@ -260,9 +260,9 @@ fn explain_command<'a>(alloc: Global) -> Result<Command<'a>, AllocError>
             "HEX",
             "The packet, or - to explain the packets of standard input",
         ),
-        Argument::Optional("keys", "FILE", "The key file to check the signature with"),
+        Argument::Optional("keys", "FILE", "The key file for checking the signature"),
     ];
-    let about = "Explains what a packet is";
+    let about = "Explains a packet";
     described(alloc, "explain", about, help::EXPLAIN, &arguments)
 }
 
@@ -286,15 +286,15 @@ fn peek_command<'a>(alloc: Global) -> Result<Command<'a>, AllocError>
 {
     let arguments = [
         Argument::Positional("URI", "The name"),
-        Argument::Flag("can-be-prefix", help::CAN_BE_PREFIX),
+        Argument::Flag("can-be-prefix", "Data with longer names may answer too"),
         Argument::Flag("must-be-fresh", "Only fresh Data may answer"),
         Argument::Optional("lifetime", "N", help::LIFETIME),
         Argument::Optional("nonce", "HEX", "The Nonce, 4 octets"),
-        Argument::Flag("raw", "Prints the content alone, as it is"),
+        Argument::Flag("raw", "Prints only the Content, unchanged"),
         Argument::Optional("to", "PORT", help::TO),
         Argument::Optional("from", "PORT", help::FROM),
     ];
-    let about = "Asks a node for a Data and explains it";
+    let about = "Gets a Data from a node and explains it";
     described(alloc, "peek", about, help::PEEK, &arguments)
 }
 

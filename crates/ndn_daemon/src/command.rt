@@ -35,30 +35,30 @@ stores Data. A rule file says which commands and which Data the node accepts.";
 const ABOUT_SCRIPT: &str = "Runs the script on standard input and prints the node's answers";
 
 const SCRIPTS: &str = "A script has one event on each line, with single spaces between its words:
-  up FACE local|far MOMENT  opens a face to a program on this machine, or to another machine
-  down FACE MOMENT          closes a face: its routes and the Interests pending there go
+  up FACE local|far MOMENT  opens a face: local for a program on this machine, or far
+  down FACE MOMENT          closes a face, and removes its routes and pending Interests
   tick MOMENT               lets time pass
-  in FACE MOMENT HEX        gives the node a packet that arrived on a face
+  in FACE MOMENT HEX        a packet arrives on a face
   rules MOMENT HEX HEX      replaces the rules and keys in force by a rule file and a key file
-FACE is the number of a face, from 1; at most 64 faces are open at once. MOMENT is a time in
-milliseconds since 1970. HEX is the packet or the file in hexadecimal, or - for no octets. Empty
-lines, and lines that begin with #, are skipped. A `rules` line whose file has a fault is bad.
+FACE is the number of a face, from 1. At most 64 faces are open at once. MOMENT is a time in
+milliseconds since 1970. HEX is a packet or a file in hexadecimal, or - for no octets. Empty lines,
+and lines that begin with #, are skipped. A `rules` line is bad if one of its files has a fault.
 
-The answer to event N is a line `N VERDICT`, followed by a line `> FACE HEX` for each packet that
-the node sends. The verdict is one of:
+The answer to event N is a line `N VERDICT`, and then a line `> FACE HEX` for each packet that the
+node sends. The verdict is one of:
   passed                        the event had its effect
-  allowed STATUS RULE           the rule allowed the command, which was answered by this status
+  allowed STATUS RULE           the rule allowed the command; the reply has this status
   data RULE                     the rule allowed the Data
   denied interest|data WHY RULE the rule denied the command or the Data
-  no-rule interest|data         no rule applies, so the packet is denied
-  dropped REASON                the event had no effect, but a looped Interest is answered by a Nack
-  memory                        memory ran out: the event had no effect, but cached Data may be lost
+  no-rule interest|data         no rule applies, so the command or the Data is denied
+  dropped REASON                only time passed; a looped Interest is answered by a Nack
+  memory                        memory ran out: nothing changed, but cached Data may be lost
 
-Without --rules no rule allows anything: routes cannot be set, and Data are not returned. A key file
-has on each line the URI of a key's name, one space, and the key in hexadecimal. If there are two
-spaces, the first one belongs to the name.
+Without --rules all commands and all Data are denied. Each line of a key file has the URI of a key's
+name, a space, and the key in hexadecimal. If there are two spaces, the first one belongs to the
+name.
 
-Example: an Interest for /A comes from face 1, and no route leads to /A. The answer is a Nack.
+Example: an Interest for /A arrives on face 1, and no route leads to /A. The answer is a Nack.
   $ ndn_node script << END
   up 1 local 0
   in 1 1000 050b07030801410a0401020304
@@ -67,53 +67,56 @@ Example: an Interest for /A comes from face 1, and no route leads to /A. The ans
   2 passed
   > 1 6418fd032005fd03210196500d050b07030801410a0401020304
 
-Exit status: 0 at the end of the script, 1 for a fault in a file or a bad line (`rules:LINE: KIND`,
-`keys:LINE: KIND` or `script:LINE: bad line` on standard error, and below it what is wrong), 2 for a
-wrong command line, 3 if input, output or memory fails.";
+Exit status: 0 at the end of the script; 1 if a file has a fault or a line is bad, with
+`rules:LINE: KIND`, `keys:LINE: KIND` or `script:LINE: bad line` on standard error, and an
+explanation on the next line; 2 if the command line is wrong; 3 if input or output fails, or if
+memory runs out.";
 
 const ABOUT_UDP: &str = "Runs the node on a UDP port of this machine and prints its answers";
 
 const AFTER_UDP: &str =
-    "The node has one UDP socket, which listens on an address and a port. --listen 6363 is port 6363
-of 127.0.0.1, which only programs on this machine reach. Other machines reach a node that listens on
-an address of this machine, such as 192.0.2.1:6363 or [2001:db8::1]:6363. PEERS are the addresses
-and ports, written in the same way, of programs that the node knows from the start. Their faces have
-the numbers 1, 2 and so on, in this order. All of them are IPv4 or all IPv6, as the socket is. The
-first K peers are Local and may send commands under /localhost, so they have to be on this machine
-(127.0.0.0/8 or ::1). The other peers are Far. At most 64 peers are given, each once.
+    "The node has one UDP socket, which listens on an address and a port. --listen 6363 means port
+6363 of 127.0.0.1, which only programs on this machine can reach. Other machines can reach a node
+that listens on another address of this machine, such as 192.0.2.1:6363 or [2001:db8::1]:6363. PEERS
+are the endpoints that the node knows from the start, in the form of --listen. The peers have the
+faces 1, 2 and so on, in this order. All peers have the address family of --listen, IPv4 or IPv6.
+The first K peers are Local. They may send commands under /localhost, so they must have a loopback
+address (127.0.0.0/8 or ::1). The other peers are Far. At most 64 peers are given, each once.
 
-In each turn the node opens the face of the next peer, or waits for one datagram. A datagram from an
-address and port without a face comes from a stranger. It opens the next face, which is Far, and is
-handled in the turn after that. If the node listens on an address that other machines can send to,
-it drops the datagrams of strangers and only counts them, unless --open is given.
+In each turn the node opens the face of the next peer, or waits for one datagram. An endpoint that
+is not a peer is a stranger. The first datagram of a stranger opens a Far face with the next number,
+and is handled in the next turn. A node that listens on an address other than a loopback address
+drops the datagrams of strangers, and only counts them, unless --open is given.
 
-A stranger's face is idle if no datagram came from it for the time of --idle. An idle face closes in
-a turn of its own, before the next datagram is handled. If a new stranger sends while 64 addresses
-and ports are known, the stranger's face that was silent longest closes, provided that it was silent
-for at least 10 seconds. Otherwise no face opens, and the packet is dropped. The face of a peer
-never closes, and the number of a face is never used again.
+A stranger's face is idle if no datagram came from the stranger for the time of --idle. An idle face
+closes in a turn of its own, before the next datagram is handled. If another stranger sends while 64
+endpoints have faces, the stranger's face that was silent longest closes, if it was silent for at
+least 10 seconds. If no face closes, no face opens, and the datagram is dropped. The face of a peer
+never closes. The number of an open face is never used for another face.
 
-A key file has on each line the URI of a key's name, one space, and the key in hexadecimal. If there
+Each line of a key file has the URI of a key's name, a space, and the key in hexadecimal. If there
 are two spaces, the first one belongs to the name.
 
-If a file of --rules or --keys has changed, the node reads both files again, and the new rules and
+If the file of --rules or --keys has changed, the node reads both files again. The new rules and
 keys take a turn of their own. To change a file, write a new file beside it, and rename the new file
-to the old name. The node reports a fault in a file, and the rules and keys in force stay.
+to the old name. If a file has a fault, the node reports the fault, and the rules and keys in force
+stay.
 
-With --journal the node writes to FILE each event that changes faces, routes, strategies, rules or
-the repository, and each allowed command, before it sends the packets of this event. Nothing is
-written for a route that expires. The next node with FILE begins where this one ended, even after a
-crash. The faces of peers stay open if they are Local or Far as before; all other faces close. The
-rules and keys are those of --rules and --keys, which may then have at most 9985 octets together.
-FILE is a script. It contains the keys, and only one node at a time may use it.
+With --journal the node writes a line to FILE for each allowed command, and for each other event
+that changes faces, routes, strategies, rules or the repository. It writes the line before it sends
+the packets of the event. It writes no line for a route that expires. The next node with FILE
+continues from the state in FILE, even after a crash. The face of a peer stays open if the peer is
+Local or Far as before. All other faces close. The rules and keys are those of --rules and --keys.
+With --journal these two files have at most 9985 octets together. FILE is a script. It contains the
+keys. Only one node at a time can use it.
 
-Turn N is printed as `script` prints event N: a line `N VERDICT`, and a line `> FACE HEX` for each
-packet that the node sends. Moments are those of the machine's clock. With --quiet nothing is
-printed. The log of --log goes to standard error, with or without --quiet. If PEERS follow --log,
-write `--log all` or `--log events`, or put another option between.
+The output for turn N has the form of the output of `script` for event N: a line `N VERDICT`, and a
+line `> FACE HEX` for each packet that the node sends. The times are those of the machine's clock.
+With --quiet nothing is printed. The log of --log goes to standard error, with or without --quiet.
+If PEERS directly follow --log, write `--log all` or `--log events`.
 
-Example: a node that takes two turns. In the first turn it opens a face for the port that an
-Interest for /A comes from. In the second turn it answers with a Nack.
+Example: a node that takes two turns. In the first turn it opens a face for the client. In the
+second turn it answers the client's Interest for /A with a Nack.
   $ ndn_node udp --listen 6363 --turns 2 &
   $ ndn_tool send 050b07030801410a0401020304 --to 6363
   1 passed
@@ -121,37 +124,38 @@ Interest for /A comes from. In the second turn it answers with a Nack.
   > 1 6418fd032005fd03210196500d050b07030801410a0401020304
   6418fd032005fd03210196500d050b07030801410a0401020304
 
-Exit status: 0 after the turns, 1 for a fault in a file (`rules:LINE: KIND` or `keys:LINE: KIND` on
-standard error, and below it what is wrong; `journal:LINE: KIND` for the journal), 2 for a wrong
-command line, 3 if a file, the port, output, the journal or memory fails.";
+Exit status: 0 after the turns; 1 if a file has a fault, with `rules:LINE: KIND`, `keys:LINE: KIND`
+or `journal:LINE: KIND` on standard error, and an explanation on the next line; 2 if the command
+line is wrong; 3 if a file, the port, output or the journal fails, or if memory runs out.";
 
 const ABOUT_JOURNAL: &str = "Leaves out the lines of a journal that a node no longer needs";
 
 const AFTER_JOURNAL: &str =
-    "FILE is a journal that `ndn_node udp --journal FILE` wrote. Give the --repo of that node, and
-stop the node first: a journal that is in use is refused.
+    "FILE is a journal that `ndn_node udp --journal FILE` wrote. Give the --repo of that node. Stop
+the node first: a journal that is in use is refused.
 
-The shorter journal has the lines that give the open faces, routes, strategies, rules and the
-repository as they are after the last line. It also has the last command of each signer and the last
-one with a sequence number, so that no command can be repeated. If one of these lines is a command
-with the status 503, all lines before it stay. At the end a line `tick` is added, with the time of
-the last line of FILE. A last line without LF is left out, as at the start of a node.
+The shorter journal has the lines that restore the open faces, routes, strategies, rules and the
+repository as they are after the last line of FILE. It also has each signer's last command, and each
+signer's last command with a sequence number, so that no command can be repeated. If one of these
+lines is a command with the status 503, all lines before it stay. At the end the program adds a line
+`tick` with the time of the last line of FILE. If the last line of FILE has no LF, it is left out,
+as at the start of a node.
 
-The shorter journal and FILE are compared on two new nodes. Then the shorter journal is written to
-FILE.short, which is renamed to FILE. If the two nodes differ, or nothing can be left out, FILE
-stays as it is.
-Standard output has one line, `FILE: 7 lines, 4 kept` or `FILE: nothing is left out`.
+The program replays FILE and the shorter journal on two new nodes. If the nodes are equal and FILE
+gets shorter, the program writes the shorter journal to FILE.short, and renames FILE.short to FILE.
+Otherwise FILE stays unchanged. Standard output has one line: `FILE: 7 lines, 4 kept` or
+`FILE: nothing is left out`.
 
-Exit status: 0 at the end, 1 for a bad line of the journal (`journal:LINE: KIND` on standard error,
-and below it what is wrong), 2 for a wrong command line, 3 if a file, output or memory fails, or the
-journal is in use.";
+Exit status: 0 at the end; 1 if the journal has a bad line, with `journal:LINE: KIND` on standard
+error, and an explanation on the next line; 2 if the command line is wrong; 3 if a file or output
+fails, if memory runs out, or if the journal is in use.";
 
 const AFTER: &str =
-    "`ndn_node script --help`, `ndn_node udp --help` and `ndn_node journal --help` say what each of
-them reads and prints.
+    "`ndn_node script --help`, `ndn_node udp --help` and `ndn_node journal --help` describe the
+subcommands.
 
-Exit status: 0 at the end, 1 for a fault in a file or a script, 2 for a wrong command line, 3 if a
-file, the port, input, output or memory fails.";
+Exit status: 0 at the end; 1 if a file or a script has a fault; 2 if the command line is wrong; 3 if
+a file, the port, input or output fails, or if memory runs out.";
 
 /// Reads the arguments of a command line. The first argument is the program's name.
 pub fn request_of<S: AsStr>(alloc: Global, arguments: &[S]) -> Result<Request, Fault>
@@ -240,31 +244,31 @@ fn udp_command<'a>(alloc: Global) -> Result<Command<'a>, AllocError> {
             alloc,
             "turns",
             "N",
-            "How many turns the node takes, with one arrival in each",
+            "The number of turns; the node handles one event in each turn",
         ))?
         .arg(option(
             alloc,
             "local",
             "K",
-            "The first K peers are Local, and have to be on this machine; 0 if absent",
+            "The first K peers are Local, and must be on this machine; 0 if absent",
         ))?
         .arg(option(
             alloc,
             "idle",
             "SECONDS",
-            "After how many seconds of silence a stranger's face closes; 600 if absent",
+            "The seconds of silence until a stranger's face closes; 600 if absent",
         ))?
         .arg(flag(
             alloc,
             "open",
-            "Accepts strangers on an address that other machines can send to",
+            "Accepts datagrams of strangers on any address",
         ))?
         .arg(log_option(alloc))?
         .arg(option(
             alloc,
             "journal",
             "FILE",
-            "Keeps faces, routes, strategies, rules and the repository in FILE for the next start",
+            "Records faces, routes, strategies, rules and repository in FILE for the next start",
         ))?
         .arg(flag(
             alloc,
@@ -302,7 +306,7 @@ fn with_node<'a>(alloc: Global, command: Command<'a>) -> Result<Command<'a>, All
             alloc,
             "cache",
             "N",
-            "How many Data the cache holds, from 1 to 65536; 1024 if absent",
+            "The greatest number of cached Data, from 1 to 65536; 1024 if absent",
         ))
 }
 
@@ -319,7 +323,7 @@ fn repo_option<'a>(alloc: Global) -> Arg<'a> {
 /// Returns the argument for the addresses and ports of the peers.
 fn peers<'a>(alloc: Global) -> Arg<'a> {
     Arg::new(alloc, "PEERS").num_args(0..).help(
-        "The peers, in the form of --listen; their faces are 1, 2 and so on",
+        "The peers, in the form of --listen; they have the faces 1, 2 and so on",
     )
 }
 
