@@ -61,7 +61,8 @@ fn has_entries(alloc: Global, text: &str, entries: &str) -> Option<bool> {
     Some(shown == wanted)
 }
 
-/// Returns the tree of a text in the format of `Debug`, or `None` if the text cannot be read.
+/// Reads a text, and returns its tree in the format of `Debug`. Returns `None` if the text cannot
+/// be read.
 fn debug_of(alloc: Global, text: &str) -> Option<String> {
     let tree = InfoTree::read(alloc, text).ok()?;
     format!(in alloc; "{tree:?}").ok()
