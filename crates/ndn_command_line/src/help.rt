@@ -182,5 +182,4 @@ pub const PORT: &str = "Sends the request to this port of 127.0.0.1, and explain
 
 pub const TO: &str = "The port of 127.0.0.1 to which the packet is sent";
 
-pub const FROM: &str =
-    "The port of 127.0.0.1 from which the packet is sent; a free port if absent";
+pub const FROM: &str = "The port of 127.0.0.1 from which the packet is sent; a free port if absent";
