@@ -3,7 +3,7 @@
 The tables follow NDN Packet Format 0.3 and NDNLPv2. Where these standards leave a choice, the tables follow
 `docs/DECISIONS.md` ("The profile"). The module shares no code with the node's reader.
 
-`read` checks the octets in this order:
+`read` checks the octets in this order. The words in parentheses are the faults.
 
 1. There are at most 9,000 octets (TooLong).
 2. The outermost element can be read (Tlv). No octets follow it, and it is an Interest, a Data or a link packet
@@ -146,8 +146,9 @@ class Fields:
         self.order = {kind: place for place, kind in enumerate(table)}
 
     def read(self, octets):
-        """Reads fields. Returns two dictionaries, which map the type of each field that is present to its value, and to
-        the offsets of its start and its end. The fault is BadField if a mandatory field is missing."""
+        """Reads fields. Returns two dictionaries, whose keys are the types of the fields that are present. The first
+        one has the values of the fields, and the second one has the offsets of their starts and ends. The fault is
+        BadField if a mandatory field is missing."""
         found, places, last = {}, {}, -1
         for one in elements(octets):
             if self.comes_next(one.kind, last, found):
@@ -212,7 +213,8 @@ def hop_limit(interest):
 
 
 def begins_with_name(value, may_be_empty):
-    """Raises Fault if the value of a packet does not begin with a Name, or if this Name is empty and must not be."""
+    """Raises Fault if the value of a packet does not begin with a Name, or if this Name is empty but `may_be_empty` is
+    false."""
     if not value:
         raise Fault("NoName")
     first = element(value)
@@ -320,8 +322,8 @@ def read_link(outer):
 
 def read(octets):
     """Decodes the octets that arrive on a face. Returns a Frame. Its `packet` is an Interest or a Data, or None for an
-    idle link packet. Its `token` is the PIT token or None. Its `reason` is the NackReason, which is 0 if a Nack has
-    none, or NO_NACK. Raises Fault if the octets are not a packet."""
+    idle link packet. Its `token` is the PIT token or None. Its `reason` is NO_NACK if there is no Nack,
+    and otherwise the NackReason, or 0 for a Nack without a NackReason. Raises Fault if the octets are not a packet."""
     if len(octets) > LONGEST_LINK:
         raise Fault("TooLong")
     found = packet_of(octets, (INTEREST, DATA, LINK))

@@ -71,7 +71,7 @@ class Asker:
 
 class Asked:
     """An out-record: the Nonce of the Interest that was sent to the face, the moment at which it was sent, and the
-    reason of the Nack that came back, or None."""
+    reason of the Nack that came back, or None if no Nack came back."""
 
     def __init__(self, nonce, moment):
         self.nonce, self.moment, self.reason = nonce, moment, None
@@ -105,9 +105,9 @@ def repository_content(status, text, count=0):
 
 
 def first_fields(component, kind):
-    """Reads the parameters of a command. Returns a dictionary that maps each type to the value of the first field of
-    this type. The component must be generic, and its value must be exactly one element of the type `kind`, which
-    contains the fields. Otherwise raises Fault."""
+    """Reads the parameters of a command, which are in a component of its name. Returns a dictionary that maps each type
+    to the value of the first field of this type. The component must be generic, and its value must be exactly one
+    element of the type `kind`, which contains the fields. Otherwise raises Fault."""
     if g.kind_of(component) != p.GENERIC:
         raise g.Fault("BadField")
     value = g.element(component).value
@@ -123,8 +123,9 @@ def first_fields(component, kind):
 class Node:
     """The state of the node.
 
-    `now` is the node's time, and `up` maps the open faces to their scopes. `version` is the version of the lists.
-    `hops` maps a name to the costs of its next hops, by face. `pending` maps a name and its flags to a PIT entry.
+    `now` is the node's time, and `up` maps the open faces to their scopes. `version` is the version of the lists of
+    routes and strategies. `hops` maps a name to the costs of its next hops, by face. `pending` maps a name and its
+    flags to a PIT entry.
     `cached` has pairs of a cached Data and the moment at which it arrived. `last` maps a signer to the time of its last
     allowed command, and to the last sequence number, if any, of its allowed commands. `wants` maps the name and the
     CanBePrefix of a pending insert to its deadline. `objects` maps full names to stored Data.
@@ -228,8 +229,8 @@ class Node:
         return nonce in others + [one.nonce for one in entry.asked.values()]
 
     def found(self, name, can_be_prefix, must_be_fresh):
-        """Returns the octets of a cached Data that answers such an Interest, or None. If several Data answer, chooses
-        the one whose full name is first in canonical order."""
+        """Returns the octets of a cached Data that answers an Interest with this name and these flags, or None. If
+        several Data answer, chooses the one whose full name is first in canonical order."""
         best = None
         for data, came in self.cached:
             fresh = not must_be_fresh or self.now < min(came + data.freshness, LAST_MOMENT)
@@ -239,14 +240,14 @@ class Node:
         return None if best is None else best.whole
 
     def stored(self, name, can_be_prefix):
-        """Returns the octets of a stored Data that answers such an Interest, or None. If several Data answer, chooses
-        the one whose full name is first in canonical order."""
+        """Returns the octets of a stored Data that answers an Interest with this name and this CanBePrefix, or None. If
+        several Data answer, chooses the one whose full name is first in canonical order."""
         found = [full for full, data in self.objects.items() if g.answers(data, name, can_be_prefix)]
         return self.objects[min(found, key=g.order)].whole if found else None
 
     def longest(self, name):
-        """Returns the next hops of the longest prefix of the name that has next hops. The result maps faces to costs,
-        and is empty if no prefix has next hops."""
+        """Takes the longest of those prefixes of the name that have next hops, and returns its next hops. The result
+        maps faces to costs, and is empty if no prefix has next hops."""
         return next((self.hops[name[:n]] for n in range(len(name), -1, -1) if name[:n] in self.hops), {})
 
     def eligible(self, name, asker, local_alone):
@@ -441,9 +442,10 @@ class Node:
     # The list of routes.
 
     def segment_asked(self, interest):
-        """Returns the version of the list of routes for which an Interest asks, or None for the current version, and
-        the number of the segment. Returns None instead of the pair if the Interest does not ask for a segment of this
-        list. Raises Beyond if the Interest's name is under the name of the list of strategies."""
+        """Returns a pair: the version of the list of routes for which an Interest asks, and the number of the segment.
+        The version is None if the Interest asks for the current version. Returns None instead of the pair if the
+        Interest does not ask for a segment of this list. Raises Beyond if the Interest's name is under the name of the
+        list of strategies."""
         name, of_routes = interest.name, p.name("/localhost/nfd/fib/list")
         if g.begins(name, p.name("/localhost/nfd/strategy-choice/list")):
             raise Beyond("the list of strategies")

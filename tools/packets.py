@@ -1,4 +1,4 @@
-"""Encodes packets, rules and the lines of key files, for the other programs of this folder.
+"""Encodes packets, rules and the lines of key files, for other programs of this folder.
 
 NDN Packet Format 0.3 and NDNLPv2 define the packets, `docs/MANAGEMENT.md` defines the commands, and `docs/RULES.md`
 defines the rules and the key files. A name is a tuple of components, and each component is a complete TLV element. The
@@ -127,7 +127,8 @@ def command(of, nonce, key, time, number=None, wrong=False):
 
 def node_name(verb, of=None, face=None, cost=None, strategy=None, count=None, origin=None, flags=None, expires=None):
     """Returns the name of a command to the node, including the ControlParameters, but without a digest. `verb` has the
-    module and the verb, for example `fib/add-nexthop`. Parameters that are None are left out."""
+    module and the verb, for example `fib/add-nexthop`. The ControlParameters have no field for an argument that is
+    None."""
     fields = [] if of is None else [tlv(7, *of)]
     for kind, value in ((105, face), (111, origin), (106, cost), (108, flags)):
         if value is not None:
@@ -161,7 +162,7 @@ def with_token(packet, token):
 
 
 def nack(reason, of, *headers):
-    """Encodes a link packet with the given header fields, followed by a Nack field with `reason`, and with the Interest
+    """Encodes a link packet. It has the given header fields, then a Nack field with `reason`, and then the Interest
     `of` as its Fragment."""
     return link(of, *headers, tlv(800, integer(801, reason)))
 

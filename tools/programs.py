@@ -31,7 +31,7 @@ def words_of(text):
 
 def resident(process, field="VmRSS"):
     """Returns the resident memory of a process in KiB, or with the field VmHWM its maximum so far. Raises Wrong if the
-    status of the process does not have the field, as after the end of the process."""
+    status of the process does not have the field. This is so after the end of the process."""
     with open(f"/proc/{process.pid}/status", encoding="ascii") as status:
         for line in status:
             if line.startswith(field + ":"):
@@ -58,11 +58,11 @@ class Reader(threading.Thread):
     """A thread that reads the output of a node, and checks each verdict when it arrives.
 
     `expected` has one entry for each event, in the form that `fits` takes. The caller must append the entry before it
-    writes the event. The thread counts the verdicts in `came`, and how often each verdict arrives in `counts`. It
-    appends a message to `wrong` for each verdict that is not expected or has a wrong event number, up to 20 messages.
-    If `keeps` is true, it appends each verdict to `kept`. `sum` is the SHA-256 of the output. At the verdicts 1, 1001,
-    2001 and so on, the thread appends the SHA-256 of all output before the verdict to `marks`. So a caller can find the
-    block of 1000 events in which the outputs of two programs differ.
+    writes the event. `came` is the number of verdicts so far, and `counts` maps each verdict to the number of times
+    that it arrived. The thread appends a message to `wrong` for each verdict that is not expected or has a wrong event
+    number, up to 20 messages. If `keeps` is true, it appends each verdict to `kept`. `sum` is the SHA-256 of the
+    output. At the verdicts 1, 1001, 2001 and so on, the thread appends to `marks` the SHA-256 of all output before this
+    verdict. So a caller can find the first block of 1000 events in which the outputs of two programs differ.
     """
 
     keeps = False

@@ -1,5 +1,5 @@
-"""Node scripts of 10 to 175 events, for `refused`. All but the random ones have the verdicts that the documents
-require."""
+"""Node scripts of 10 to 175 events, for `refused`. All scripts but the random ones have the verdicts that the
+documents require."""
 
 import random
 
@@ -561,7 +561,7 @@ def all_of_them():
 
 def random_script(seed):
     """Returns a script of 40 events. The script opens three faces, adds a route, and continues with random events on a
-    few names. Each Interest that is not a command and does not ask for a list has MustBeFresh, and each Data has no
+    few names. Each Interest that is not a command and does not ask for a list has MustBeFresh, and no Data has a
     FreshnessPeriod. So the cache answers no Interest."""
     s, draw = Scenario(f"random script {seed}"), random.Random(seed)
     names = (A, AB, ABC, B, B + A, p.name("/sensors/roof"))
