@@ -18,11 +18,12 @@ Example: a key, an Interest that is signed with the key, and the fields of the I
   $ packet=$(ndn_tool interest /A --nonce 01020304 --keys ops.keys --key /ops/KEY/1 --time 1000000)
   $ ndn_tool show $packet
 
-Exit status: 0 if the answer is printed; 1 if a key file has a fault, a key is missing, or a packet
-cannot be read or written; 2 if the command line is wrong; 3 if reading, writing or sending fails,
-or if memory runs out. With --send the exit status is 0 if the reply has the status 200, or the
-status 100 for an insert. It is 1 if the reply has another status, if a Nack comes, or if no answer
-comes.";
+Exit status: 0 if the answer is printed; 1 if a key file has a fault, a key is missing, the name of
+a packet is not valid, a packet is too long, or the octets on the command line are not a packet; 2
+if the command line or standard input is wrong; 3 if reading, writing or sending fails, or if memory
+runs out. With --send, a command has the exit status 0 if the reply has the status 200, or the
+status 100 for an insert. A list has the exit status 0 if all its segments come. Otherwise the exit
+status is 1.";
 
 pub const INTEREST: &str =
     "With --key the Interest is signed with HmacWithSha256. A signed Interest has parameters. They
@@ -45,9 +46,9 @@ Example: a Data named /A. Its Content is the letter x.
 pub const COMMAND: &str =
     "URI is the command's name without its parameters, so it ends with the verb. If URI is under
 /localhost/nfd, the parameters are those of a command to a node, and --lifetime and --can-be-prefix
-have no effect. Otherwise the parameters are those of a command to a repository, and only --name,
---lifetime and --can-be-prefix are parameters. Without --key the command is signed with
-DigestSha256.
+have no effect. Otherwise the parameters are those of a command to a repository: --name, --lifetime
+and --can-be-prefix. The options for other parameters then have no effect. Without --key the command
+is signed with DigestSha256.
 
 Example: a signed command that adds a next hop for /A.
   $ echo '/ops/KEY/1 6b6579' > ops.keys
@@ -57,9 +58,9 @@ Example: a signed command that adds a next hop for /A.
 pub const ROUTE: &str =
     "VERB is add, remove, register, unregister or list. Each verb except list requires PREFIX and
 --face. The verb add allows --cost. The verb register allows --cost, --flags, --expires and
---origin. The verb unregister allows --origin. A registered route replaces the route with the same
-name, face and origin. Without --time the signature time is the time of the clock. Without --nonce
-the Nonce is computed from the signature time and the words of the command line. Without --key the
+--origin, and replaces a registered route with the same name, face and origin. The verb unregister
+allows --origin. Without --time the signature time is the time of the clock. Without --nonce the
+Nonce is computed from the signature time and the words of the command line. Without --key the
 command is signed with DigestSha256. The verb list allows only --nonce, --send and --from. With
 --send, list gets all segments of the list, and prints a table with tabs between its columns.
 
@@ -67,8 +68,8 @@ Example: add a next hop for /A through face 2, and remove it.
   $ ndn_tool route add /A --face 2 --keys ops.keys --key /ops/KEY/1
   $ ndn_tool route remove /A --face 2 --keys ops.keys --key /ops/KEY/1
 
-Example: register a route for /A through face 2, and unregister it. Longer names inherit the route.
-It expires after an hour.
+Example: register a route for /A through face 2, which longer names inherit, and which expires after
+an hour. Then unregister the route.
   $ ndn_tool route register /A --face 2 --flags 1 --expires 3600000 --keys ops.keys --key /ops/KEY/1
   $ ndn_tool route unregister /A --face 2 --keys ops.keys --key /ops/KEY/1
 
@@ -76,11 +77,11 @@ Example: the routes of the node at port 6363. The request is sent from the port 
   $ ndn_tool route list --send 6363 --from 7001";
 
 pub const STRATEGY: &str =
-    "VERB is set, unset or list. The verbs set and unset require PREFIX. Only set takes STRATEGY,
-and requires it. STRATEGY is best-route, multicast or the URI of a strategy. Without --time the
-signature time is the time of the clock. Without --nonce the Nonce is computed from the signature
-time and the words of the command line. Without --key the command is signed with DigestSha256. The
-verb list allows only --nonce, --send and --from.
+    "VERB is set, unset or list. The verbs set and unset require PREFIX. The verb set also requires
+STRATEGY; unset does not allow it. STRATEGY is best-route, multicast or the URI of a strategy.
+Without --time the signature time is the time of the clock. Without --nonce the Nonce is computed
+from the signature time and the words of the command line. Without --key the command is signed with
+DigestSha256. The verb list allows only --nonce, --send and --from.
 
 Example: set the strategy of /A to multicast.
   $ ndn_tool strategy set /A multicast --keys ops.keys --key /ops/KEY/1";
@@ -121,9 +122,9 @@ Example: a Data named /A.
 pub const EXPLAIN: &str =
     "Prints the lines of show. Also prints the key locator, the time and the sequence number of the
 signature, and what a command, a reply or a list contains. With --keys the signature is checked.
-With - the packets are read from standard input, in hexadecimal. Each line has one packet, alone or
-after > FACE, as in the answers to a script. Any other line is printed unchanged, except an empty
-line.
+With - the lines of standard input are explained. If a line has a packet in hexadecimal, alone or
+after > FACE as in the answers to a script, the packet is explained. An empty line is left out. Any
+other line is printed unchanged.
 
 Example: a Data named /A, signed with a key.
   $ ndn_tool explain 0620070308014115017816141b01041c0f070d08036f707308034b45590801311700
@@ -137,16 +138,16 @@ Example: a Data named /A, signed with a key.
 pub const SEND: &str =
     "Sends the packet as one datagram to the port of --to at 127.0.0.1. Prints the first datagram
 that comes back, in hexadecimal, whatever it contains. With - the packet is read from standard
-input, in hexadecimal. If no answer comes in time, the exit status is 3.
+input, in hexadecimal. If no answer comes within 4 seconds, the exit status is 3.
 
 Example: write an Interest, send it to a node, and explain the answer.
   $ ndn_tool interest /A --nonce 01020304 | ndn_tool send - --to 6363 | ndn_tool explain -";
 
 pub const PEEK: &str =
     "Without --to the Interest is printed in hexadecimal. With --to the Interest is sent to this
-port of 127.0.0.1, and the answer is printed in the format of explain. With --raw only the Content
-of the Data is printed. Without --nonce the Nonce is computed from the time and the words of the
-command line. The exit status is 1 if a Nack comes, or if no answer comes.
+port of 127.0.0.1, and the answer is printed in the format of explain. With --to and --raw only the
+Content of the Data is printed. Without --nonce the Nonce is computed from the time and the words of
+the command line. The exit status is 1 if a Nack comes, or if no answer comes.
 
 Example: the Content of /A, from the node at port 6363.
   $ ndn_tool peek /A --to 6363 --raw";
@@ -164,7 +165,7 @@ pub const FLAGS: &str =
     "The flags of the route: 0 none, 1 child-inherit, 2 capture, 3 both; 1 if absent";
 
 pub const EXPIRES: &str =
-    "The time in milliseconds until the route expires; it does not expire if absent";
+    "The milliseconds until the route expires; if absent, the route does not expire";
 
 pub const ORIGIN: &str = "The origin of the route; 0 if absent";
 

@@ -39,10 +39,11 @@ const SCRIPTS: &str = "A script has one event on each line, with single spaces b
   down FACE MOMENT          closes a face, and removes its routes and pending Interests
   tick MOMENT               lets time pass
   in FACE MOMENT HEX        a packet arrives on a face
-  rules MOMENT HEX HEX      replaces the rules and keys in force by a rule file and a key file
+  rules MOMENT HEX HEX      replaces the rules and keys in force by those of the two files
 FACE is the number of a face, from 1. At most 64 faces are open at once. MOMENT is a time in
-milliseconds since 1970. HEX is a packet or a file in hexadecimal, or - for no octets. Empty lines,
-and lines that begin with #, are skipped. A `rules` line is bad if one of its files has a fault.
+milliseconds since 1970. HEX is in hexadecimal, or - for no octets: a packet or, in a `rules` line,
+a rule file and then a key file. A `rules` line is bad if one of the files has a fault. Empty lines,
+and lines that begin with #, are skipped.
 
 The answer to event N is a line `N VERDICT`, and then a line `> FACE HEX` for each packet that the
 node sends. The verdict is one of:
@@ -51,12 +52,12 @@ node sends. The verdict is one of:
   data RULE                     the rule allowed the Data
   denied interest|data WHY RULE the rule denied the command or the Data
   no-rule interest|data         no rule applies, so the command or the Data is denied
-  dropped REASON                only time passed; a looped Interest is answered by a Nack
-  memory                        memory ran out: nothing changed, but cached Data may be lost
+  dropped REASON                nothing changed but the time; a looped Interest gets a Nack
+  memory                        memory ran out: no effect, but the cache may have lost Data
 
-Without --rules all commands and all Data are denied. Each line of a key file has the URI of a key's
-name, a space, and the key in hexadecimal. If there are two spaces, the first one belongs to the
-name.
+Without --rules all commands and all Data are denied, until a `rules` line gives rules. Each line of
+a key file has the URI of a key's name, a space, and the key in hexadecimal. If there are two
+spaces, the first one belongs to the name.
 
 Example: an Interest for /A arrives on face 1, and no route leads to /A. The answer is a Nack.
   $ ndn_node script << END
@@ -81,18 +82,21 @@ that listens on another address of this machine, such as 192.0.2.1:6363 or [2001
 are the endpoints that the node knows from the start, in the form of --listen. The peers have the
 faces 1, 2 and so on, in this order. All peers have the address family of --listen, IPv4 or IPv6.
 The first K peers are Local. They may send commands under /localhost, so they must have a loopback
-address (127.0.0.0/8 or ::1). The other peers are Far. At most 64 peers are given, each once.
+address (127.0.0.0/8 or ::1). The other peers are Far. Give at most 64 peers, and each peer only
+once.
 
-In each turn the node opens the face of the next peer, or waits for one datagram. An endpoint that
-is not a peer is a stranger. The first datagram of a stranger opens a Far face with the next number,
-and is handled in the next turn. A node that listens on an address other than a loopback address
-drops the datagrams of strangers, and only counts them, unless --open is given.
+The first turns open the faces of the peers. Each later turn handles a datagram, opens or closes a
+face, or takes new rules and keys. An endpoint that is not a peer is a stranger. The first datagram
+of a stranger opens a Far face with the next number, and is handled in the next turn. A node that
+listens on an address other than a loopback address drops the datagrams of strangers, and only
+counts them, unless --open is given.
 
 A stranger's face is idle if no datagram came from the stranger for the time of --idle. An idle face
-closes in a turn of its own, before the next datagram is handled. If another stranger sends while 64
-endpoints have faces, the stranger's face that was silent longest closes, if it was silent for at
-least 10 seconds. If no face closes, no face opens, and the datagram is dropped. The face of a peer
-never closes. The number of an open face is never used for another face.
+closes in a turn of its own, before the next datagram is handled. Suppose that another stranger
+sends while 64 endpoints have faces. Then the node closes the stranger's face that has been silent
+longest, if it has been silent for at least 10 seconds. If no face closes, no face opens, and the
+datagram is dropped. The face of a peer never closes. The number of an open face is never used for
+another face.
 
 Each line of a key file has the URI of a key's name, a space, and the key in hexadecimal. If there
 are two spaces, the first one belongs to the name.
@@ -105,15 +109,15 @@ stay.
 With --journal the node writes a line to FILE for each allowed command, and for each other event
 that changes faces, routes, strategies, rules or the repository. It writes the line before it sends
 the packets of the event. It writes no line for a route that expires. The next node with FILE
-continues from the state in FILE, even after a crash. The face of a peer stays open if the peer is
-Local or Far as before. All other faces close. The rules and keys are those of --rules and --keys.
-With --journal these two files have at most 9985 octets together. FILE is a script. It contains the
-keys. Only one node at a time can use it.
+continues from the state in FILE, even after a crash. The face of a peer stays open if the peer was
+Local and is still Local, or was Far and is still Far. All other faces close. The rules and keys are
+those of --rules and --keys. With --journal these two files must have at most 9985 octets together.
+FILE is a script. It contains the keys. Only one node at a time can use it.
 
 The output for turn N has the form of the output of `script` for event N: a line `N VERDICT`, and a
-line `> FACE HEX` for each packet that the node sends. The times are those of the machine's clock.
-With --quiet nothing is printed. The log of --log goes to standard error, with or without --quiet.
-If PEERS directly follow --log, write `--log all` or `--log events`.
+line `> FACE HEX` for each packet that the node sends. The moments of the events are those of the
+machine's clock. With --quiet nothing is printed. The log of --log goes to standard error, with or
+without --quiet. If PEERS directly follow --log, write `--log all` or `--log events`.
 
 Example: a node that takes two turns. In the first turn it opens a face for the client. In the
 second turn it answers the client's Interest for /A with a Nack.
@@ -126,7 +130,8 @@ second turn it answers the client's Interest for /A with a Nack.
 
 Exit status: 0 after the turns; 1 if a file has a fault, with `rules:LINE: KIND`, `keys:LINE: KIND`
 or `journal:LINE: KIND` on standard error, and an explanation on the next line; 2 if the command
-line is wrong; 3 if a file, the port, output or the journal fails, or if memory runs out.";
+line is wrong; 3 if a file cannot be read, if the port, output or the journal fails, or if memory
+runs out.";
 
 const ABOUT_JOURNAL: &str = "Leaves out the lines of a journal that a node no longer needs";
 
@@ -137,25 +142,26 @@ the node first: a journal that is in use is refused.
 The shorter journal has the lines that restore the open faces, routes, strategies, rules and the
 repository as they are after the last line of FILE. It also has each signer's last command, and each
 signer's last command with a sequence number, so that no command can be repeated. If one of these
-lines is a command with the status 503, all lines before it stay. At the end the program adds a line
-`tick` with the time of the last line of FILE. If the last line of FILE has no LF, it is left out,
-as at the start of a node.
+lines is a command with the status 503, all lines before it stay. If the last line of FILE has no
+LF, it is left out, as at the start of a node. At the end the program adds a line `tick` with the
+time of the last whole line of FILE.
 
-The program replays FILE and the shorter journal on two new nodes. If the nodes are equal and FILE
-gets shorter, the program writes the shorter journal to FILE.short, and renames FILE.short to FILE.
-Otherwise FILE stays unchanged. Standard output has one line: `FILE: 7 lines, 4 kept` or
-`FILE: nothing is left out`.
+The program replays FILE and the shorter journal on two new nodes. If both nodes have the same
+tables, both journals have the same last rules and keys, and the new journal is shorter, the program
+writes the new journal to FILE.short, and renames FILE.short to FILE. Otherwise FILE stays
+unchanged. Standard output has one line: `FILE: 7 lines, 4 kept` or `FILE: nothing is left out`.
 
-Exit status: 0 at the end; 1 if the journal has a bad line, with `journal:LINE: KIND` on standard
-error, and an explanation on the next line; 2 if the command line is wrong; 3 if a file or output
-fails, if memory runs out, or if the journal is in use.";
+Exit status: 0 at the end; 1 if the journal has a bad line, or a line that no node with this --repo
+wrote, with `journal:LINE: KIND` on standard error, and an explanation on the next line; 2 if the
+command line is wrong; 3 if a file or output fails, if memory runs out, or if the journal is in
+use.";
 
 const AFTER: &str =
     "`ndn_node script --help`, `ndn_node udp --help` and `ndn_node journal --help` describe the
 subcommands.
 
 Exit status: 0 at the end; 1 if a file or a script has a fault; 2 if the command line is wrong; 3 if
-a file, the port, input or output fails, or if memory runs out.";
+a file cannot be read, if the port, input or output fails, or if memory runs out.";
 
 /// Reads the arguments of a command line. The first argument is the program's name.
 pub fn request_of<S: AsStr>(alloc: Global, arguments: &[S]) -> Result<Request, Fault>
