@@ -171,8 +171,8 @@ pub fn plays(alloc: Global, scene: &mut Scene, book: &KeyBook, row: &str) -> Opt
     ends_as(alloc, &exchange, progress, wanted)
 }
 
-/// Runs the rows in order on one node, up to the first row that `plays` does not confirm. Empty
-/// lines are skipped. Returns the line number of this row, counted from 1. Returns 0 if `plays`
+/// Runs the rows in order on one node, and skips empty lines. Stops at the first row that `plays`
+/// does not confirm, and returns the line number of this row, counted from 1. Returns 0 if `plays`
 /// confirms every row.
 fn first_misplayed(alloc: Global, scene: &mut Scene, book: &KeyBook, rows: &str) -> usize {
     for (before, row) in rows.lines().enumerate() {

@@ -1,5 +1,5 @@
-//! Tests of command lines of the client: what it prints, which packets it sends and reads, and its
-//! faults with their exit statuses.
+//! Tests of command lines of the client: what the client prints, which packets the client sends and
+//! reads, and the client's faults with their exit statuses.
 
 use hmac_keys::{KeyBook, KeyFault};
 use ndn_client::{
@@ -415,9 +415,10 @@ $ ndn_tool command /localhost/nfd/rib/register --name /A --face 1 --cost 2 --str
 05cd078508096c6f63616c686f737408036e66640803726962080872656769737465720842684007030801416901016a01026b27072508096c6f63616c686f737408036e66640808737472617465677908096d756c7469636173746c01036d01046f01058401060220e81fe4a9c31a791ce2e0a662cf5918ee7259642c519760e37705302f0508fa090a040102030424002c1a1b01041c0f070d08036f707308034b45590801312804000f42402e2084eb55d73ad50d435aa887e0566bf99d86058dcef2a5a89ec5c86825d673df7d
 ";
 
-/// Tests the options of the commands for registered routes, except `--send` and `--from`. Commands
-/// are written in the short form `ndn_tool route`, and as `ndn_tool command` with an option for
-/// each field. The packets were made by an independent program.
+/// The commands for registered routes have several options. All options except `--send` and
+/// `--from` are tested. Commands are written in the short form `ndn_tool route`, and as
+/// `ndn_tool command` with an option for each field. The packets were made by an independent
+/// program.
 #[test]
 fn registered_routes(rt: HostRuntime) {
     check_session(&rt, OPS, ROUTES);
@@ -1183,7 +1184,7 @@ fn unreadable_key_file(rt: HostRuntime) {
     assert!(rt; said.as_deref() == Some(wanted));
 }
 
-/// Binds a port that another socket uses. Returns whether the bind fails with exit status 3 and a
+/// Tries to bind a port that another socket uses. Returns whether the fault has exit status 3 and a
 /// message that contains the port.
 fn refuses_taken_port(rt: &HostRuntime) -> Option<bool> {
     let other = UdpSocket::bind(rt, (Ipv4Addr::LOCALHOST, 0)).ok()?;
@@ -1510,8 +1511,8 @@ fn hears_long(rt: &HostRuntime, status: u8) -> Option<Result<(), Fault>> {
     hears(rt, request, b"forged", &reply)
 }
 
-/// A client ignores a datagram that is not a packet, waits for its answer, and ends with the
-/// outcome of the answer.
+/// A client ignores a datagram that is not a packet, waits for the answer to its request, and ends
+/// with the outcome of the answer.
 #[test]
 fn forged_answers(rt: HostRuntime) {
     assert!(rt; matches!(hears_long(&rt, 200), Some(Ok(()))));

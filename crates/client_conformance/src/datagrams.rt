@@ -134,8 +134,9 @@ fn long_name(alloc: Global) -> Option<String> {
     Some(name)
 }
 
-/// Returns whether a command that adds a route for this name ends as the row says. The reply to the
-/// command contains the name twice, in 7,956 octets each time, and 151 other octets.
+/// Returns whether a command that adds a route for this name ends as the row says. In the reply to
+/// the command, the name occurs twice and takes 7,956 octets each time. The rest of the reply takes
+/// 151 octets.
 fn hears_name(alloc: Global, name: &str, row: &str) -> Option<bool> {
     let line = "route add ~ --face 2 $KEY $NODE"
         .replace(alloc, '~', name)

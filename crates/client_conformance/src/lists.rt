@@ -108,8 +108,8 @@ fn routes_in_three_segments(rt: HostRuntime) {
     assert!(rt; is_right(rt.alloc(), &lists_routes) == Some(true));
 }
 
-/// Returns whether a repository accepts 64 inserts that wait for their Data, and refuses one more
-/// insert with status 503.
+/// Returns whether a repository accepts 64 inserts that wait for their Data, and then refuses one
+/// more insert. The status of this refusal must be 503.
 fn takes_wants(alloc: Global, scene: &mut Scene, book: &KeyBook) -> Option<bool> {
     for number in 0..64 {
         let row = format!(in alloc;

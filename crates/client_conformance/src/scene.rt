@@ -17,7 +17,7 @@ const PRODUCER: u64 = 2;
 /// The face of a client at a new port.
 const NEW_PORT: u64 = 3;
 
-/// A node with the faces `OPERATOR`, `PRODUCER` and `NEW_PORT`, and the present moment. The
+/// The present moment, and a node with the faces `OPERATOR`, `PRODUCER` and `NEW_PORT`. The
 /// function `plays` advances the present moment by one millisecond for each command line.
 #[derive(Drop)]
 pub struct Scene {

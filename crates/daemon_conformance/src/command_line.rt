@@ -218,7 +218,7 @@ ndn_node journal --repo /a/b --shorten=d/j -> d/j /a/b
     check_requests(&rt, rows);
 }
 
-/// Returns a command with this many peers. The peers' ports are numbered from 1 on.
+/// Returns a command with this many peers. The ports of the peers are 1, 2, and so on.
 fn command_of_peers(alloc: Global, peers: u16) -> Option<String> {
     let mut command = String::from_str(alloc, "ndn_node udp --listen 6363 --turns 1").ok()?;
     for port in 0..peers {
@@ -357,7 +357,8 @@ fn is_told(alloc: Global, fault: Fault, wanted: &str) -> bool {
     format!(in alloc; "{} {fault}", fault.exit_status()).is_ok_and(|told| told.as_str() == wanted)
 }
 
-/// Returns whether the message for a file that cannot be read names the file and the cause.
+/// A file cannot be read. Returns whether the message of this fault contains the file and the
+/// cause.
 fn unread_is_told(alloc: Global) -> Option<bool> {
     let fault = Fault::Unread {
         file: "rule file",

@@ -18,8 +18,8 @@ impl Read for Broken {
     }
 }
 
-/// Returns the number of octets read from a reader of `count` octets, or `None` if `count` is more
-/// than `LIMIT`.
+/// Reads a reader of `count` octets. Returns the number of octets that were read, or `None` if
+/// `count` is more than `LIMIT`.
 fn read_of(alloc: Global, count: u64) -> Option<usize> {
     let found = read_within(alloc, repeat(b'x').take(count), LIMIT).ok()?;
     Some(found?.len())
@@ -30,7 +30,7 @@ fn refuses_endless(alloc: Global) -> bool {
     read_within(alloc, repeat(b'x'), LIMIT).is_ok_and(|found| found.is_none())
 }
 
-/// Returns whether a read error that occurs after some octets is reported.
+/// A reader gives some octets and then fails. Returns whether the read error is reported.
 fn fails_in_the_middle(alloc: Global) -> bool {
     read_within(alloc, repeat(b'x').take(3).chain(Broken), LIMIT).is_err()
 }
@@ -45,9 +45,9 @@ fn readers(rt: HostRuntime) {
     assert!(rt; fails_in_the_middle(rt.alloc()));
 }
 
-/// Reads the lines of `text` with a limit of four octets. Returns whether they are the lines of
-/// `wanted`. A `-` in `wanted` stands for a line that is too long. Reading stops at a line that is
-/// too long.
+/// Reads the lines of `text`, each with a limit of four octets. Returns whether the lines that were
+/// read are the lines of `wanted`. A `-` in `wanted` stands for a line that is too long. Reading
+/// stops at a line that is too long.
 fn lines_are(alloc: Global, text: &str, wanted: &str) -> Option<bool> {
     let mut lines = Vec::new(alloc);
     read_lines(alloc, text, &mut lines)?;

@@ -19,7 +19,7 @@ const INTEREST: &str = "050b07030801610a0401020304";
 /// The Data `/a`, whose KeyLocator is the name `/k`.
 const DATA: &str = "06150703080161160a1b01041c05070308016b1702abcd";
 
-/// An element whose value has 1 octet, followed by 37 further octets.
+/// An element with a value of 1 octet, and 37 octets after the element.
 const BROKEN: &str =
     "0501ffffffffffffffffffffffffffffffffffffffffffffffffffffffffffffffffffffffffffff";
 
@@ -36,7 +36,8 @@ const RULES: &str = "rule
 }
 ";
 
-/// Returns whether `line` is the line of a packet on face 2 from 192.0.2.7:6363 with this verdict.
+/// Returns whether `line` is the log line of a packet that has this verdict. The packet comes from
+/// 192.0.2.7:6363 on face 2.
 fn is_line(alloc: Global, packet: &str, verdict: Verdict, line: &str) -> bool {
     let Ok(octets) = hex::decode(alloc, packet) else {
         return false;
@@ -52,12 +53,14 @@ fn is_line(alloc: Global, packet: &str, verdict: Verdict, line: &str) -> bool {
     )
 }
 
-/// Returns whether `line` is the line of an event on a face at 192.0.2.7:6363 with this verdict.
+/// Returns whether `line` is the log line of an event that has this verdict. The event is on a face
+/// at 192.0.2.7:6363.
 fn is_event_line(alloc: Global, came: Came<'_>, verdict: Verdict, line: &str) -> bool {
     shown(alloc, came, verdict).is_some_and(|text| text.as_slice() == line.as_bytes())
 }
 
-/// Returns the line of an event on a face at 192.0.2.7:6363 with this verdict.
+/// Returns the log line of an event that has this verdict. The event is on a face at
+/// 192.0.2.7:6363.
 fn shown(alloc: Global, came: Came<'_>, verdict: Verdict) -> Option<Vec<u8>> {
     let rules = rules_of(alloc)?;
     let mut text = Vec::new(alloc);
@@ -71,7 +74,8 @@ fn rules_of(alloc: Global) -> Option<Rules> {
     Rules::read(alloc, &tree).ok()
 }
 
-/// Appends the line of an event on a face at 192.0.2.7:6363 with this verdict.
+/// Appends the log line of an event that has this verdict. The event is on a face at
+/// 192.0.2.7:6363.
 fn put_line(
     alloc: Global,
     text: &mut Vec<u8>,
@@ -105,8 +109,9 @@ fn says_more(alloc: Global) -> bool {
     )
 }
 
-/// Returns four lines of a log: a closed face at the last time that a log shows as a date, two
-/// closed faces one millisecond later, a failed send, and a datagram from a stranger.
+/// Returns four lines of a log. The first line tells that a face closed at the last time that a log
+/// shows as a date. The second line tells that two faces closed one millisecond later. The last two
+/// lines tell of a failed send, and of a datagram from a stranger.
 fn shown_notes(alloc: Global) -> Option<Vec<u8>> {
     let mut text = Vec::new(alloc);
     put_notes(alloc, &mut text)?;

@@ -231,8 +231,8 @@ fn a_route_that_came_back(rt: HostRuntime) {
 }
 
 /// A program registers routes of `/A` and `/B`, and its face closes. The last command of the signer
-/// stays, since the node must deny this command if it comes again. The line that opens the face
-/// before the command stays too, and so does the line that closes the face afterwards.
+/// stays, since the node must deny this command if it comes again. The lines that open and close
+/// the face of this command stay too.
 const A_PROGRAM_THAT_LEAVES: &str = "* rules 900
 * up 1 local 1000
 * up 2 local 1000
@@ -373,8 +373,8 @@ fn rules_that_change(rt: HostRuntime) {
 
 /// If the repository has another prefix than `/repo`, an insert under `/repo` is an ordinary
 /// Interest. No node journals an ordinary Interest, so a journal with such an insert is refused.
-/// With the prefix `/repo`, the journal is accepted, but no shorter journal is made. The prefix
-/// `/localhost` is refused.
+/// With the prefix `/repo`, the same journal is accepted, but no shorter journal is made. The
+/// prefix `/localhost` is refused.
 #[test]
 fn another_prefix(rt: HostRuntime) {
     let alloc = rt.alloc();

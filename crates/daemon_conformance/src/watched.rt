@@ -67,9 +67,9 @@ fn closes<P: Ports>(ports: &mut P, closed: u64, at: u64) -> bool {
     matches!(ports.next(&mut [0; 16]), Ok(Arrival::FaceDown { face, now }) if face == closed && now == at)
 }
 
-/// Returns whether the source of rules is first checked one second after the start. The new rules
-/// must come before the packet that arrives one second after the start, and this packet must follow
-/// unchanged.
+/// Returns whether the source of rules is checked for the first time one second after the start.
+/// The new rules must come before the packet that arrives one second after the start, and this
+/// packet must follow unchanged.
 fn rules_come_first(alloc: Global) -> Option<bool> {
     let renewal = no_rules(alloc)?;
     let source = Once {

@@ -20,7 +20,7 @@ no_digits = let found = decode_of-digits [] refl (All-nil (λ (o : ℕ). is_hex_
     by [] e = e
     by (o ∷ octets) e = let len = (decode_of-ok [] (o ∷ octets) e).2 in absurd (omega (arith, len))
 
--- for an empty text nothing is printed
+-- for an empty text, nothing is printed
 pub said_nothing : (keys : Option (List NamedKey)) → IsExplainedInput keys [] []
 said_nothing keys =
     subst (λ (lines : List (List ℕ)). AreExplained keys lines []) (sym no_lines)

@@ -75,8 +75,8 @@ hop_words layout es =
     number_word (labels_of layout).face (first_of FACE_ID es)
     ++ number_word (labels_of layout).cost (first_of COST es)
 
--- the line of a route with this name; the element is a next hop, which gives the face and the cost;
--- nothing for any other element
+-- the line of a route with this name, if the element is a next hop; the next hop gives the face and
+-- the cost; nothing for any other element
 abbrev pub hop_line : Layout → List ℕ → Result Field TlvFault → List ℕ
 hop_line layout name (Err fault) = []
 hop_line layout name (Ok e) =

@@ -1,7 +1,7 @@
--- The explanation of a packet for debugging, as lines of text. First come the lines of `show`, the
--- fields of the packet's SignatureInfo (NDN Packet Format 0.3, "Signature"), and the result of the
--- signature check. Then come the lines of what the packet carries: a segment, a command, a reply,
--- dataset entries or a text.
+-- The explanation of a packet for debugging, as lines of text. Three parts come first: the lines of
+-- `show`, the lines of the packet's SignatureInfo (NDN Packet Format 0.3, "Signature"), and the
+-- line of the signature check. Then come the lines of what the packet carries: a segment, a
+-- command, a reply, dataset entries or a text.
 use Rattle.std.specs.Prelude.{ℕ, List, [], ◌∷◌, ◌++◌, codes, Option, None, Some, ◌==◌, if◌then◌else◌}
 use Rattle.std.specs.List.{list_all}
 use Rattle.std.specs.Option.{option_map}

@@ -1,4 +1,4 @@
--- Explaining a text line by line: a packet is replaced by its explanation, any other line stays as
+-- Explaining the lines of a text: a packet is replaced by its explanation, any other line stays as
 -- it is, and empty lines are left out.
 use Rattle.std.specs.Prelude.{◌≡◌, ◌⊎◌, ℕ, List, [], ◌∷◌, ◌++◌, codes, Option, Result, Ok, Err, Bool, false, ◌==◌, if◌then◌else◌}
 use Rattle.hex.specs.declared.error.FromHexError.{FromHexError}
@@ -23,7 +23,8 @@ is_send [] = false
 is_send (o ∷ line) = o == 62
 
 -- The text before a packet in a line, and the packet's digits. In a line that begins with `>` and
--- has a space, the digits follow the last space. Any other line is read as digits only.
+-- has a space, the digits follow the last space. In any other line, all characters are read as
+-- digits.
 abbrev pub parts_of : List ℕ → List ℕ × List ℕ
 parts_of text =
     if is_send text then on_option (λ parts. parts) ([], text) (at_last_space text)

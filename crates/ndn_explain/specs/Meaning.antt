@@ -1,5 +1,5 @@
 -- What a command asks for and what a reply answers, as lines of text (NFD Management, "Control
--- Command"; the elements for a repository are specific to this profile).
+-- Command"; the elements for a repository are a choice of this implementation).
 use Rattle.std.specs.Prelude.{ℕ, ◌-◌, ◌/◌, ◌%◌, List, [], ◌++◌, length, take, Bool, true, false, is_some, nat_le, ◌==◌, ◌&&◌, codes, Option, None, Some, slice_get, if◌then◌else◌}
 use Rattle.std.specs.Option.{option_map}
 use Rattle.std.specs.List.{list_all}

@@ -21,8 +21,9 @@ pub enum Layout {
     Table,
 }
 
-/// For each value in a line, the text that is printed before the value. In the line of a route,
-/// `route` precedes the name. In the line of a strategy choice, `choice` precedes the name.
+/// For each value in a line, the text that is printed before the value. In the line of a route, the
+/// text in `route` precedes the name. In the line of a strategy choice, the text in `choice`
+/// precedes the name.
 #[derive(Clone, Copy)]
 struct Labels {
     route: &'static str,

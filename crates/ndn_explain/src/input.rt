@@ -1,4 +1,4 @@
-//! Explaining a text line by line.
+//! Explaining the lines of a text.
 
 ghost use Rattle.std.specs.Prelude.{◌≡◌, ◌≢◌, ◌<◌, ◌⊎◌, ◌++◌, ◌∷◌, [], List, ℕ, Ok, OnOk, codes, option_map, length};
 ghost use Rattle.hmac_keys.specs.KeyFile.{lines_of};
@@ -15,11 +15,11 @@ use ndn_packets::{PacketFault, read_lp};
 use ndn_tlv::Memory;
 use std::alloc::Global;
 
-/// Explains a text line by line and appends the result. A packet is replaced by its explanation,
-/// and the text before the packet becomes a separate line. A line without a packet stays as it is,
-/// and empty lines are omitted. A packet is one or more octets in hexadecimal, either alone on a
-/// line or after the last space of a line that begins with `>`. The signature of each packet is
-/// checked if there are keys. On `Memory`, some of the lines may have been appended.
+/// Explains the lines of a text one by one, and appends the result. A packet is replaced by its
+/// explanation, and the text before the packet becomes a separate line. A line without a packet
+/// stays as it is, and empty lines are omitted. A packet is one or more octets in hexadecimal,
+/// either alone on a line or after the last space of a line that begins with `>`. The signature of
+/// each packet is checked if there are keys. On `Memory`, some of the lines may have been appended.
 pub fn put_input(
     alloc: Global,
     text: &mut Vec<u8>,
@@ -53,8 +53,8 @@ fn put_line(
     put_digits(alloc, text, line, head, digits, keys)
 }
 
-/// Explains a line. `head` is the text before the packet, and `digits` are the digits of the
-/// packet, as `parts_of` returns them.
+/// Explains a line. For this line, `parts_of` returns `head`, the text before the packet, and
+/// `digits`, the digits of the packet.
 fn put_digits(
     alloc: Global,
     text: &mut Vec<u8>,

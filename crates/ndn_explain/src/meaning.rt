@@ -234,7 +234,7 @@ fn put_field(
     Ok(())
 }
 
-/// Reads `value` in the form `form`, and appends its text.
+/// Reads `value` in the form `form`, and appends the text of the value.
 pub fn put_form(alloc: Global, text: &mut Vec<u8>, form: Form, value: &[u8]) -> Result<(), Memory>
     ensures { OnOk result (text.new.items ≡ text.old.items ++ form_text form value.now) }
 {
@@ -268,7 +268,8 @@ fn put_flags_text(alloc: Global, text: &mut Vec<u8>, value: &[u8]) -> Result<(),
     }
 }
 
-/// Returns the names of a route's flags, or `none` if neither flag is set.
+/// A route has the flags child-inherit and capture. Returns the names of the flags that are set, or
+/// `none` if neither flag is set.
 fn flags_word(flags: u64) -> &'static str
     ensures { result.now ≡ flags_word flags }
 {

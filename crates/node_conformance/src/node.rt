@@ -155,8 +155,8 @@ fn dialogue_outcome(alloc: Global, rules: &str, cache: u32, dialogue: &str) -> O
     outcome_under(alloc, rules, cache, script.as_str())
 }
 
-/// Checks that `outcome` consists of the answers in the dialogue, followed by an end without a
-/// fault.
+/// Checks that `outcome` has two parts: the answers in the dialogue, and then the text for an end
+/// without a fault.
 fn check_answers(rt: &impl Abort, dialogue: &str, outcome: &str) {
     let mut answers = outcome.lines();
     for line in dialogue.lines() {

@@ -8,7 +8,7 @@ use super::udp::{
 use node_ports::{Ports, UdpPorts};
 use std::net::{Ipv4Addr, Ipv6Addr, Net, SocketAddr, UdpSocket};
 
-/// Returns this port of 127.0.0.1.
+/// Returns the endpoint with this port at the address 127.0.0.1.
 fn loopback(port: u16) -> SocketAddr {
     SocketAddr::from((Ipv4Addr::LOCALHOST, port))
 }
@@ -103,8 +103,8 @@ fn serves_version_six(rt: &impl Net, client: &UdpSocket) -> Option<bool> {
     serves_client(&mut ports, listen, client)
 }
 
-/// Returns what `serves_version_six` returns for a new client. Returns true, without a test, if no
-/// socket can be bound to ::1.
+/// Returns what `serves_version_six` returns for a new client. If no socket can be bound to ::1,
+/// tests nothing and returns true.
 fn serves_where_there_is_one(rt: &impl Net) -> Option<bool> {
     match UdpSocket::bind(rt, (Ipv6Addr::LOCALHOST, 0)) {
         Ok(client) => serves_version_six(rt, &client),

@@ -51,7 +51,7 @@ fn face_events(rt: HostRuntime) {
     replies(&rt, FACE_EVENTS);
 }
 
-/// Appends a script that opens 64 faces, tries to open face 65, closes face 1, and tries to open
+/// Appends to `script` lines that open 64 faces, try to open face 65, close face 1, and try to open
 /// face 65 again. Appends to `wanted` the outcome that the script must have. Returns `None` if
 /// memory runs out.
 fn put_65_faces(script: &mut String, wanted: &mut String) -> Option<()> {

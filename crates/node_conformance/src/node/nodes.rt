@@ -20,7 +20,7 @@ const PARTS: &str = "
 /repo 65537 -> Err(BadCapacity)
 ";
 
-/// Returns the parts of a node with this repository's prefix and this cache's capacity.
+/// Returns the parts of a node whose repository has this prefix and whose cache has this capacity.
 fn parts_at(alloc: Global, prefix: &str, cache: u32) -> Option<NodeParts> {
     let repo = NameBuf::from_uri(alloc, prefix).ok()?;
     let rules = rules_of(alloc, SAMPLE)?;
@@ -32,8 +32,8 @@ fn parts_at(alloc: Global, prefix: &str, cache: u32) -> Option<NodeParts> {
     })
 }
 
-/// Makes a node with this repository's prefix and this cache's capacity, and drops the node.
-/// Returns `Ok(())` or the fault.
+/// Makes a node whose repository has this prefix and whose cache has this capacity, and drops the
+/// node. Returns `Ok(())` or the fault.
 fn made_at(alloc: Global, prefix: &str, cache: u32) -> Option<Result<(), NodeFault>> {
     Some(Node::new(alloc, parts_at(alloc, prefix, cache)?).map(drop))
 }
@@ -67,7 +67,7 @@ fn opens(node: &mut Node, outbox: &mut Outbox) -> bool {
     node.step(up, outbox).is_ok()
 }
 
-/// Returns whether the verdict on an Interest on face 1 is `Passed`.
+/// Gives a node an Interest that comes on face 1, and returns whether the verdict is `Passed`.
 fn passes(node: &mut Node, outbox: &mut Outbox, octets: &[u8]) -> bool {
     let interest = Event::Packet {
         face: 1,

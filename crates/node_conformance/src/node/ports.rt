@@ -194,7 +194,7 @@ fn put_turns<P: Ports>(alloc: Global, node: &mut Node, ports: &mut P, text: &mut
     }
 }
 
-/// Gives a node the events of a dialogue at a port. Returns whether the text that is printed for
+/// At a port, gives a node the events of a dialogue. Returns whether the text that is printed for
 /// the node's turns is `wanted`.
 pub fn prints(alloc: Global, node: &mut Node, dialogue: &str, wanted: &str) -> Option<bool> {
     let mut ports = ports_of(alloc, dialogue)?;
@@ -205,7 +205,8 @@ pub fn prints(alloc: Global, node: &mut Node, dialogue: &str, wanted: &str) -> O
 
 /// Serves a node with the events of `FIRST_PATH` for `turns` turns, and returns whether the result
 /// is `wanted`. In the port, call number `next` of the method `next` fails, and call number `send`
-/// of the method `send` fails. If one of the numbers is 0, no call of its method fails.
+/// of the method `send` fails. If `next` is 0, no call of the method `next` fails. If `send` is 0,
+/// no call of the method `send` fails.
 fn node_serves(
     alloc: Global,
     node: &mut Node,

@@ -158,8 +158,8 @@ fn are_answers(text: &[u8]) -> bool {
         || is_front(text, ANSWERS_TO_INTEREST)
 }
 
-/// Returns whether `SCRIPT` can end with `end` after the output `text`. Memory may run out. If it
-/// runs out while the node is made, `text` is not checked.
+/// Returns whether `SCRIPT` can end with `end` after the output `text`. Memory may run out. If
+/// memory runs out while the node is made, `text` is not checked.
 fn is_end(end: Result<(), RunFault>, text: &[u8]) -> bool {
     match end {
         Ok(()) => are_answers(text) && text.ends_with(b"4 passed\n"),
@@ -168,8 +168,8 @@ fn is_end(end: Result<(), RunFault>, text: &[u8]) -> bool {
     }
 }
 
-/// Plays `SCRIPT`, and returns what `is_end` returns for its end and its output. Returns `None` if
-/// one of the test's own allocations fails.
+/// Plays `SCRIPT`, and returns what `is_end` returns for the end and the output of `SCRIPT`.
+/// Returns `None` if one of the test's own allocations fails.
 fn script(alloc: Global) -> Option<bool> {
     let held = Vec::with_capacity(alloc, 1000).ok()?;
     let mut output = Room {

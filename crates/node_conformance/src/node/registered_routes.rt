@@ -1,5 +1,5 @@
-//! Routes that are registered, and how they expire. A generator of test packets computed the
-//! packets and the answers in these dialogues from the formats of packets.
+//! Routes that are registered, and how they expire. A generator of test packets knows the formats
+//! of packets. It computed the packets and the answers in the dialogues of this file.
 
 use super::replies;
 

@@ -51,7 +51,8 @@ tick 1|# 2|in 1|tick 2 -> 1 passed|Err(BadLine(3))
 up 1 local 0|up 2 far 0|in 1|tick 7| -> 1 passed|2 passed|Err(BadLine(3))
 ";
 
-/// Returns the output of a script and how the script ends, with `|` for each LF.
+/// Returns a text with the output of a script and how the script ends. In this text, `|` stands for
+/// each LF.
 fn shown_outcome(alloc: Global, script: &str) -> Option<String> {
     let came = sample_outcome(alloc, script)?;
     came.as_str().replace(alloc, '\n', "|").ok()

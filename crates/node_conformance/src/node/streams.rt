@@ -107,8 +107,9 @@ pub fn end_in(alloc: Global, script: &str, output: &mut Room) -> Option<Result<(
 }
 
 /// Returns whether `end` and `written` are right for an output that accepts `left` octets. If the
-/// answers are longer, exactly their first `left` octets must be written, and then writing must
-/// fail. Otherwise all answers must be written, and the script must end without a fault.
+/// answers have more than `left` octets, exactly their first `left` octets must be written, and
+/// then writing must fail. Otherwise all answers must be written, and the script must end without a
+/// fault.
 fn is_end(end: Option<Result<(), RunFault>>, written: &[u8], left: usize, answers: &[u8]) -> bool {
     let (wanted, len) = if left < answers.len() {
         (Err(RunFault::Write), left)

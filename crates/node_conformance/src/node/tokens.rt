@@ -160,7 +160,7 @@ in 1 1000000 TOKEN_INTEREST
 > 1 TOKEN_D_A
 ";
 
-/// Replies to commands (also to denied commands), segments of lists, and stored Data are sent back
+/// Stored Data, segments of lists, and replies to commands, even to denied commands, are sent back
 /// with the token of the Interest. The repository's own Interest has no token.
 #[test]
 fn tokens_on_replies(rt: HostRuntime) {

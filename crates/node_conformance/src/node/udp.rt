@@ -101,7 +101,7 @@ fn handed_ports_of<'a>(
     UdpPorts::bind(rt, listen, &[peer], local, Handed { moment, last: 0 }).ok()
 }
 
-/// Sends a packet to a port from a new socket, and returns the socket. `word` stands for the
+/// Makes a socket that sends a packet to a port, and returns the socket. `word` stands for the
 /// packet.
 fn client_of(rt: &(impl AllocGlobal + Net), to: u16, word: &str) -> Option<UdpSocket> {
     let octets = octets_of(rt.alloc(), word);
@@ -251,8 +251,8 @@ fn serves_soon(
     Some(soon && hears(alloc, client, "NO_ROUTE") && passes(alloc, node, ports, 2))
 }
 
-/// Returns whether `serve_turn_soon` takes no turn before a client sends, and `serves_soon` returns
-/// true afterwards.
+/// Returns whether `serve_turn_soon` takes no turn before a client sends a datagram, and
+/// `serves_soon` returns true afterwards.
 fn waits_for_client(
     rt: &(impl AllocGlobal + Net),
     node: &mut Node,
@@ -308,8 +308,8 @@ fn drops_for_want_of_a_face(alloc: Global, node: &mut Node, ports: &mut UdpPorts
         && says(alloc, node, ports, Verdict::Dropped(DropReason::NoFace))
 }
 
-/// Returns whether a node with faces of 64 peers opens no face for another client, and drops the
-/// client's packet.
+/// A node has a face for each of 64 peers. Returns whether the node opens no face for a client, and
+/// drops the client's packet.
 fn drops_the_next(rt: &(impl AllocGlobal + Net), node: &mut Node) -> Option<bool> {
     let listen = free_port(rt)?;
     let mut ports = full_ports(rt, listen)?;
@@ -486,9 +486,9 @@ fn brings_end<M: Moments>(ports: &mut UdpPorts<M>, closed: u64, at: u64) -> bool
     )
 }
 
-/// Lets 200 clients send a packet, one after the other. Each client after the first sends when the
-/// face of the previous client has been silent for 600 seconds and must close. Returns the number
-/// of clients that are answered.
+/// Lets 200 clients send a packet, one after the other. Each client after the first sends its
+/// packet when the face of the previous client has been silent for 600 seconds and must close.
+/// Returns the number of clients that are answered.
 fn answered_at(
     rt: &(impl AllocGlobal + Net),
     node: &mut Node,
@@ -640,9 +640,10 @@ fn open_all<M: Moments>(ports: &mut UdpPorts<M>, faces: u64, at: u64) -> bool {
     true
 }
 
-/// `client` is at the 64th port, and `newcomer` is at the 65th port. Returns whether a send to
-/// `newcomer` fails when `client` has been silent for 9,999 milliseconds. After 10,000 milliseconds
-/// of silence the face of `client` must close, and a send to `newcomer` must succeed.
+/// 63 peers have faces, `client` gets the 64th face, and `newcomer` is one more client. Returns
+/// whether a send to `newcomer` fails when `client` has been silent for 9,999 milliseconds. After
+/// 10,000 milliseconds of silence, the face of `client` must close, and a send to `newcomer` must
+/// succeed.
 fn gives_way(
     ports: &mut UdpPorts<Handed<'_>>,
     moment: &Cell<u64>,
@@ -660,7 +661,7 @@ fn gives_way(
     Some(full && refused && closed && ports.send(66, b"").is_ok() && ports.send(64, b"").is_err())
 }
 
-/// Returns a socket that sends to the port `to`, and receives from this port only.
+/// Returns a socket that sends packets to the port `to`, and receives packets only from this port.
 fn connected(rt: &impl Net, to: u16) -> Option<UdpSocket> {
     let socket = bound_socket(rt)?;
     socket.connect((Ipv4Addr::LOCALHOST, to)).ok()?;
