@@ -218,8 +218,9 @@ A 00 -> BadLine(1)
     check_rows(&rt, rt.alloc(), rows, key_file);
 }
 
-/// Looks up `/A` in a key file in which the key of `/A` has the octets of the row. Returns the
-/// result. If the result ends with the key's hexadecimal digits, these digits are left out.
+/// Looks up `/A` in a key file, and returns the result. In this file, the key of `/A` has the
+/// octets that the row gives. If the result ends with the key's hexadecimal digits, these digits
+/// are left out.
 fn file_of_key(alloc: Global, input: &str) -> Option<String> {
     let digits = digits_of(alloc, input)?;
     let found = found_with(alloc, &digits)?;

@@ -1,4 +1,4 @@
-//! Tests of reading and writing elements, names, keys and packets.
+//! Tests of reading and writing elements, names and packets. Also tests of HMAC and of key files.
 #![tactic(auto)]
 
 #[cfg(test)]

@@ -276,7 +276,7 @@ fn octets_of(alloc: Global, input: &str) -> Option<String> {
     }
 }
 
-/// Returns the octets of a name, if `counted` is the number of its components.
+/// Returns the octets of a name, if `counted` is the number of the name's components.
 fn octets_counted(
     alloc: Global,
     name: Name<'_>,
@@ -562,8 +562,8 @@ fn hash_of<T: Hash>(value: &T) -> u64 {
     state.finish()
 }
 
-/// Returns the order of two names. Compares the owned names and their views. Returns `None` if a
-/// reverse comparison, a test for equality or a hash disagrees with this order.
+/// Compares two owned names and their views, and returns the order of the names. Returns `None` if
+/// a reverse comparison, a test for equality or a hash disagrees with this order.
 fn order_of(left: &NameBuf, right: &NameBuf) -> Option<Ordering> {
     let order = left.cmp(right);
     let is_equal = order.is_eq();

@@ -15,9 +15,9 @@ use ndn_tlv::put_element;
 use std::alloc::Global;
 use test_support::octets;
 
-/// Returns octets, wrapped in nested elements. In `input`, the types of the elements are before the
-/// bar, and the octets are after the bar. The outermost type comes first. Without a bar, the octets
-/// are not wrapped.
+/// Returns octets, wrapped in nested elements. `input` has the types of the elements, then a bar,
+/// and then the octets. The outermost type comes first. If `input` has no bar, the octets are not
+/// wrapped.
 fn packet(alloc: Global, input: &str) -> Option<Vec<u8>> {
     let (kinds, value) = input.split_once('|').unwrap_or(("", input));
     let mut octets = octets(alloc, value)?;
@@ -60,15 +60,15 @@ fn outcome(alloc: Global, input: &str) -> Option<String> {
     String::from_str(alloc, outcome_of(&octets)).ok()
 }
 
-/// Reads all proper prefixes of a packet. Returns their outcome if all of them have the same
+/// Reads each proper prefix of a packet. If all these prefixes have the same outcome, returns this
 /// outcome.
 fn cut(alloc: Global, input: &str) -> Option<String> {
     let octets = packet(alloc, input)?;
     cut_shown(alloc, &octets)
 }
 
-/// Reads all proper prefixes of these octets. Returns their outcome if all of them have the same
-/// outcome.
+/// Reads each proper prefix of these octets. If all these prefixes have the same outcome, returns
+/// this outcome.
 fn cut_shown(alloc: Global, octets: &[u8]) -> Option<String> {
     let outcome = outcome_of(&[]);
     for end in 0..octets.len() {

@@ -1,4 +1,5 @@
--- In an empty table no face has a next hop or a route, so each face that has one is up.
+-- In an empty table no face has a next hop or a route. Therefore each face that has a next hop or a
+-- route is up.
 use Rattle.std.proofs.Common.{◌≡◌, ℕ, List, ap, inl, inr, ◌∙◌}
 use Rattle.std.specs.Prelude.{Option, None, IsSome, unwrap_or}
 use Rattle.std.specs.FinMap as map

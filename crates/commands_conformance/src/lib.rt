@@ -1,5 +1,5 @@
-//! Tests of commands that change routes, strategies and the cache, and of the repository: its
-//! commands, and the Data that it stores and serves.
+//! Tests of commands that change routes, strategies and the cache. Also tests of the repository: of
+//! its commands, and of the Data that it stores and serves.
 #![tactic(auto)]
 
 #[cfg(test)]

@@ -93,7 +93,7 @@ fn fields_shown(alloc: Global, command: &Command<'_>) -> Option<String> {
     Some(text)
 }
 
-/// Appends a space, and then the number, or `-` if there is none.
+/// Appends a space and the number. If there is no number, appends a space and `-`.
 fn put_count(text: &mut String, count: Option<u64>) -> Option<()> {
     match count {
         None => text.push_str(" -").ok(),
@@ -206,7 +206,7 @@ fn reply_and_list(
     octets_shown(alloc, applied.status, applied.body.as_slice(), &list)
 }
 
-/// Shows a status, and a body and a dataset in hexadecimal.
+/// Shows a status as a number, and shows a body and a dataset in hexadecimal.
 fn octets_shown(alloc: Global, status: u16, body: &[u8], list: &[u8]) -> Option<String> {
     let body = hex::encode(alloc, body).ok()?;
     let list = hex::encode(alloc, list).ok()?;

@@ -88,8 +88,8 @@ fn answered(alloc: Global, repo: &mut Repo, name: Name<'_>, now: u64) -> Option<
     reply_shown(alloc, &repo.command(name, now).ok()?)
 }
 
-/// Applies a command with this verb, and shows the reply. The words are the name in the command,
-/// the time, and perhaps a lifetime.
+/// Applies a command with this verb, and shows the reply. `words` are the name in the command, the
+/// time, and perhaps a lifetime.
 fn command(alloc: Global, repo: &mut Repo, verb: &str, words: &str) -> Option<String> {
     let mut words = words.split(' ');
     let asked = words.next()?;
@@ -193,7 +193,7 @@ fn answers(alloc: Global, calls: &str) -> Option<String> {
     shown_on_repo(alloc, calls, answers_of)
 }
 
-/// Calls `show` with a row and an empty repository with the prefix `/repo`, and returns the result.
+/// Calls `show` with a row and an empty repository whose prefix is `/repo`. Returns the result.
 fn shown_on_repo(
     alloc: Global,
     row: &str,
@@ -239,8 +239,8 @@ fn sameness(alloc: Global, row: &str) -> Option<String> {
     holds_same_as(alloc, &repo, others)
 }
 
-/// Shows whether a repository has the same objects and wants as a new repository after the calls
-/// `others`.
+/// Shows whether a repository has the same objects and wants as a new repository has after the
+/// calls `others`.
 fn holds_same_as(alloc: Global, repo: &Repo, others: &str) -> Option<String> {
     let other = repo_after(alloc, others)?;
     truth_shown(alloc, repo.holds_same(&other))
@@ -325,8 +325,8 @@ insert /A 0, expire 3999, check /A 0, expire 4000, check /A 0 -> 100:0 /A 4000, 
     check_rows(&rt, rt.alloc(), rows, answers);
 }
 
-/// Shows the reply to a command on an empty repository with the prefix `/repo`. `text` is the
-/// command's name: a URI, and then the values of further components in hexadecimal. The word
+/// Applies a command to an empty repository whose prefix is `/repo`, and shows the reply. `text` is
+/// the command's name: a URI, and then the values of further components in hexadecimal. The word
 /// `digest` stands for a digest of zeros.
 fn first_answer(alloc: Global, text: &str) -> Option<String> {
     shown_on_repo(alloc, text, answered_to)
@@ -480,8 +480,9 @@ fn status_and_count(repo: &mut Repo, name: Name<'_>, now: u64) -> Option<(u16, u
     Some((reply.status, reply.count))
 }
 
-/// Returns whether 64 wants fit, and a new want is then refused. A want that is equal to one of the
-/// 64 must be accepted, and so must a new want after the 64 have expired.
+/// Returns whether the repository accepts 64 wants, and then refuses a new want. A want that is
+/// equal to one of the 64 wants must be accepted. After the 64 wants have expired, a new want must
+/// be accepted as well.
 fn limits_wants(alloc: Global, repo: &mut Repo) -> Option<bool> {
     for number in 0..64 {
         if status_of(alloc, repo, "insert", number)? != 100 {
@@ -578,7 +579,8 @@ fn has_effects_or_none(
     })
 }
 
-/// Returns whether a reply is written whole or, if memory runs out, leaves the buffer unchanged.
+/// Returns whether `put_repo_reply` writes the whole reply or, if memory runs out, leaves the
+/// buffer unchanged.
 fn replies_or_leaves(alloc: Global) -> Option<bool> {
     let mut out = Vec::new(alloc);
     replies_or_leaves_in(&mut out)

@@ -204,10 +204,10 @@ fn refused_memory_for_records(rt: HostRuntime) {
 }
 
 /// Returns whether a recording for a new signer leaves earlier records unchanged, even if the
-/// recording runs out of memory. Whether memory runs out or not, the command of the new signer must
-/// afterwards be fresh exactly if it was not recorded. The recording may run out of memory because
-/// another signer's recording used up the preparation. Returns `None` if memory runs out before the
-/// recording for the new signer.
+/// recording runs out of memory. Afterwards, the command of the new signer must be fresh exactly if
+/// this command was not recorded. The recording may run out of memory because another signer's
+/// recording used up the preparation. Returns `None` if memory runs out before the recording for
+/// the new signer.
 fn leaves_earlier_records(alloc: Global) -> Option<bool> {
     let first = key_in(alloc, "/k")?;
     let second = key_in(alloc, "/l")?;

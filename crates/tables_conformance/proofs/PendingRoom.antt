@@ -1,5 +1,5 @@
--- If all records of a table are of faces below 64, the table has room for a record of any face
--- below 64, since at most 64 faces have records.
+-- If a table has records only of faces below 64, at most 64 faces have records. Therefore the table
+-- has room for a record of any face below 64.
 use Rattle.std.proofs.Common.{◌≡◌, ◌⊎◌, inl, inr, ℕ, suc, ◌+◌, ◌<◌, ◌≤◌, zero, Bool, true, false, List, [], ◌∷◌, length, refl, sym, ap, subst, ◌∙◌, arith, ltb, Bor}
 use Rattle.std.specs.Prelude.{Option, Some, None, Result, Ok, Err, unwrap_or, IsSome, is_some, OnOk, OnErr}
 use Rattle.std.specs.Option.{option_map}
@@ -15,7 +15,7 @@ use Rattle.pit_fib.specs.Cause.{Cause, Follows}
 use Rattle.pit_fib.specs.Pit.{HasRecord, HasRoomFor}
 use Rattle.pit_fib.proofs.PendingFaces.{Adds, had_record}
 
--- all records in the table are of faces below 64
+-- the table has records only of faces below 64
 abbrev pub AreBelow : Pending → Type 0
 AreBelow pending = (face : ℕ) → HasRecord pending face → face < 64
 

@@ -241,8 +241,8 @@ left_ours now =
     revised_ours (entry_left_at now)
     (λ e all. unless_vacant_ours (record e { registered = revise (until_due now) e.registered }) (until_due_ours now e all))
 
--- if `new` is `after` for a successful call and `old` for a refused call, and `AreOurs` holds for
--- `old` and for `after`, then `AreOurs` holds for `new`
+-- suppose that `new` equals `after` if `answer` is `Ok`, and equals `old` if `answer` is `Err`; if
+-- `AreOurs` holds for `old` and for `after`, then `AreOurs` holds for `new`
 pub either_ours : {X Y : Type 0} (answer : Result X Y) (old new after : Routes) → OnOk answer (new ≡ after) → OnErr answer (new ≡ old) → AreOurs old → AreOurs after → AreOurs new
 either_ours (Ok x) old new after ok err all done = subst AreOurs (sym ok) done
 either_ours (Err y) old new after ok err all done = subst AreOurs (sym err) all

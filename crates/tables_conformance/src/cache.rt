@@ -44,8 +44,9 @@ fn key_of<'a>(name: Name<'a>, flags: &str) -> Key<'a> {
     }
 }
 
-/// Returns the Content of the Data that an Interest gets, or `none` if it gets no Data. `words` are
-/// the Interest's name, its flags (`p` for CanBePrefix, `f` for MustBeFresh) and the moment.
+/// Returns the Content of the Data that an Interest gets, or `none` if the Interest gets no Data.
+/// `words` are the Interest's name, its flags (`p` for CanBePrefix, `f` for MustBeFresh) and the
+/// moment.
 fn find(alloc: Global, store: &mut Store, words: &str) -> Option<String> {
     let (uri, rest) = words.split_once(' ')?;
     let (flags, now) = rest.split_once(' ')?;
@@ -196,8 +197,8 @@ fn the_least_name_that_is_fresh(rt: HostRuntime) {
     check_rows(&rt, rt.alloc(), rows, answers);
 }
 
-/// With ample memory, each Data that is put is cached. Among the Data that answer an Interest, a
-/// lookup finds the Data with the least full name.
+/// With ample memory, every call of `put` caches its Data. Among the Data that answer an Interest,
+/// a lookup finds the Data with the least full name.
 #[test]
 fn cache_kept(rt: HostRuntime) {
     let rows = "
@@ -290,8 +291,8 @@ fn is_found_within(store: &mut Store, name: Name<'_>, packet: &[u8], most: u64) 
     (counted >= 1 && counted <= most).then_some(is_found)
 }
 
-/// Returns whether the Data that `packet` encodes is cached. Returns `None` if the lookup takes no
-/// comparison, or more than `most` comparisons.
+/// Looks up the Data that `packet` encodes, and returns whether this Data is cached. Returns `None`
+/// if the lookup takes no comparison, or more than `most` comparisons.
 fn is_held(store: &mut Store, packet: &[u8], most: u64) -> Option<bool> {
     match read_frame(packet).ok()? {
         Frame::Data(data) => is_found_within(store, data.name, packet, most),
@@ -332,8 +333,8 @@ fn evicts_the_first(
     Some(holds && store.len() == capacity as usize)
 }
 
-/// Returns whether a store with this capacity evicts the first Data when it gets one Data more than
-/// its capacity. Each lookup must take at least one and at most `most` comparisons.
+/// Returns whether a store with this capacity evicts its first Data when the store gets one Data
+/// more than its capacity. Each lookup must take at least one and at most `most` comparisons.
 fn is_first_gone(alloc: Global, capacity: u32, most: u64) -> Option<bool> {
     let mut packet = data_of(alloc, "/n/0000", "01", Some(0))?;
     let mut store = Store::new(alloc, capacity as usize).ok()?;

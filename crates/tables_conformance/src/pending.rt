@@ -1,4 +1,4 @@
-//! Tests of tables of pending Interests. All records in these tables are of faces below 64.
+//! Tests of tables of pending Interests. These tables have records only of faces below 64.
 //! Therefore no table exceeds its limit of 64 faces.
 
 mod askers;
@@ -15,7 +15,7 @@ use pit_fib::*;
 use std::alloc::Global;
 use std::marker::Model;
 
-/// A table whose records are all of faces below 64.
+/// A table that has records only of faces below 64.
 #[derive(Drop)]
 struct Table {
     pit: Pit,
@@ -78,8 +78,8 @@ impl Table {
             .err()
     }
 
-    /// Records an Interest of the face `face % 64` with a PIT token. The octets of the Interest are
-    /// its Nonce. Returns the fault if the table refuses the Interest.
+    /// Records an Interest that has a PIT token and comes from the face `face % 64`. The octets of
+    /// the Interest are its Nonce. Returns the fault if the table refuses the Interest.
     fn ask_with(
         &mut self,
         key: Key<'_>,
@@ -190,8 +190,8 @@ fn put_used(text: &mut String, used: &Used) -> Option<()> {
     Some(())
 }
 
-/// Appends `interest` in hexadecimal, or the word `none` if `interest` is `None`. The octets are
-/// those of an Interest or of a token.
+/// Appends `interest` in hexadecimal, or the word `none` if `interest` is `None`. `interest` has
+/// the octets of an Interest or of a token.
 fn put_interest(alloc: Global, text: &mut String, interest: Option<&[u8]>) -> Option<()> {
     match interest {
         Some(interest) => {
@@ -497,8 +497,8 @@ fn runs_rounds(alloc: Global, table: &mut Table) -> Option<bool> {
     Some(true)
 }
 
-/// Runs many rounds. Returns whether the table then has 64 keys, and is empty after an expiry at
-/// the deadline of the Interests.
+/// Calls `runs_rounds`. Returns whether all rounds succeed, and the table then has 64 keys. After
+/// an expiry at the deadline of the Interests, the table must be empty.
 fn ends_empty(alloc: Global, table: &mut Table, _key: Key<'_>, _other: Key<'_>) -> Option<bool> {
     let runs = runs_rounds(alloc, table)?;
     let stood = table.pit.len();
@@ -569,7 +569,8 @@ fn records_of_64_faces(rt: HostRuntime) {
 
 /// Returns whether a prepared Interest is recorded and sent on, even if other Interests were
 /// removed after the preparation. A preparation that is refused must leave the records unchanged.
-/// If the first Interest, which is under `other`, is refused, the table must be empty.
+/// Before the preparation, an Interest is recorded under `other`. If that Interest is refused, the
+/// table must be empty.
 fn keeps_what_is_prepared(
     _alloc: Global,
     table: &mut Table,

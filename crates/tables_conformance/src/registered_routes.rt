@@ -1,4 +1,4 @@
-//! Registered routes: what names inherit, when routes expire, and how many routes there may be.
+//! Registered routes: what a name inherits, when routes expire, and how many routes there may be.
 
 mod effective_hops;
 mod random_sequences;
@@ -67,7 +67,7 @@ fn put_rows(text: &mut String, rows: &[(NameBuf, Hops)]) -> Option<()> {
     Some(())
 }
 
-/// Appends each name with its next hops.
+/// For each name in the list of `fib`, appends the name and its next hops.
 fn put_list(alloc: Global, text: &mut String, fib: &Fib, now: u64) -> Option<()> {
     let rows = fib.list(alloc, now).ok()?;
     put_rows(text, &rows)
@@ -80,7 +80,7 @@ fn list_or_none(alloc: Global, fib: &Fib, now: u64) -> Option<String> {
     String::from_str(alloc, text.strip_prefix(" | ").unwrap_or("none")).ok()
 }
 
-/// Appends `; ` and the answer to `list` at a moment.
+/// Appends `; ` and the answer to `list` at the moment `now`.
 fn put_told_list(alloc: Global, text: &mut String, fib: &Fib, now: u64) -> Option<()> {
     let list = list_or_none(alloc, fib, now)?;
     write!(text, "; {list}").ok()

@@ -9,8 +9,8 @@ use pit_fib::*;
 use std::alloc::Global;
 use std::marker::Model;
 
-/// A table of next hops and registered routes. Each of their faces is below 63 or is the greatest
-/// face number.
+/// A table of next hops and registered routes. The face of each next hop and of each route is below
+/// 63 or is the greatest face number.
 #[derive(Drop)]
 pub struct RouteTable {
     fib: Fib,

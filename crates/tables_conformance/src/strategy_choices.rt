@@ -47,8 +47,8 @@ fn root_hops(alloc: Global, fib: &Fib) -> Hops {
     fib.longest(root.view())
 }
 
-/// Returns the next hops of the name `/` in a table with the next hops in `routes`. Face 2 is
-/// marked as Local.
+/// Reads a table of next hops from `routes`, and returns the next hops of the name `/` in this
+/// table. Face 2 is marked as Local.
 fn hops_in(alloc: Global, routes: &str) -> Option<Hops> {
     let routes = routes_in(alloc, routes)?;
     let mut hops = root_hops(alloc, routes.read());
@@ -155,7 +155,7 @@ all: / 2 5, / 3 0; 2 localhost 1000; -> no route
 /// Best-route sends nothing if any face was used less than 10 milliseconds ago. If no next hop is
 /// eligible, the result is `no route`, even if a face was just used. After 10 milliseconds,
 /// best-route sends to an eligible next hop that was not used, or else to the eligible next hop
-/// that was last used the earliest.
+/// whose last use is the earliest.
 #[test]
 fn best_route_waits_10_milliseconds(rt: HostRuntime) {
     let rows = "
@@ -185,7 +185,7 @@ all: / 2 5, / 3 0; - - 1009; 7@1000 -> send 2 3
     check_rows(&rt, rt.alloc(), rows, choice);
 }
 
-/// Best-route chooses the next hop that was last used the earliest. If several next hops were not
+/// Best-route chooses the next hop whose last use is the earliest. If several next hops were not
 /// used, or were last used at the same moment, best-route chooses the one with the least cost. If
 /// several of them have the least cost, best-route chooses the one with the least face.
 #[test]

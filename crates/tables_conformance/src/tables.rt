@@ -1,4 +1,4 @@
-//! Tests of the tables of next hops and of strategies by name.
+//! Tests of the tables that map names to next hops, and of the tables that map names to strategies.
 
 use crate::route_table::RouteTable;
 use crate::rows::check_rows;
@@ -65,7 +65,7 @@ fn put_rows(text: &mut String, rows: &[(NameBuf, Hops)]) -> Option<()> {
     Some(())
 }
 
-/// Appends each name that has next hops, with its next hops.
+/// For each name that has next hops, appends the name and its next hops.
 fn put_list(alloc: Global, text: &mut String, fib: &Fib) -> Option<()> {
     let rows = fib.list(alloc, 0).ok()?;
     put_rows(text, &rows)
@@ -225,7 +225,7 @@ fn put_choices(text: &mut String, rows: &[(NameBuf, StrategyId)]) -> Option<()> 
     Some(())
 }
 
-/// Appends each name that has a strategy, with its strategy.
+/// For each name that has a strategy, appends the name and its strategy.
 fn put_strategies(alloc: Global, text: &mut String, table: &StrategyTable) -> Option<()> {
     let rows = table.list(alloc).ok()?;
     put_choices(text, &rows)
@@ -406,8 +406,8 @@ fn leads_to_2(fib: &Fib, name: Name<'_>) -> Option<bool> {
     Some(hop.face == 2 && hop.cost == 0 && steps <= 64)
 }
 
-/// Returns whether the lookup of a name of 64 components finds the next hop of `/` on face 2, with
-/// at most 64 searches. Each component of the name is `B`. The table also has a next hop of `/A` on
+/// Looks up a name of 64 components, each of which is `B`. Returns whether the lookup takes at most
+/// 64 searches, and finds the next hop of `/` on face 2. The table also has a next hop of `/A` on
 /// face 3.
 fn is_deep_found(alloc: Global) -> Option<bool> {
     let name = long_name(alloc)?;
@@ -634,8 +634,8 @@ fn is_strategy_prepared(alloc: Global, name: Name<'_>) -> bool {
     strategies.prepare(name).is_ok()
 }
 
-/// Returns whether an `add` can be prepared in a table of next hops, and a `set` in a table of
-/// strategies.
+/// Returns whether an `add` can be prepared in a table of next hops, and a `set` can be prepared in
+/// a table of strategies.
 fn are_prepared(alloc: Global) -> Option<bool> {
     let name = numbered(alloc, 1)?;
     let is_hop = is_hop_prepared(alloc, name.view());

@@ -81,7 +81,7 @@ fn lends(octets: &mut [u8]) -> bool {
     }
 }
 
-/// Returns the original HopLimit `limit` and the octets, if the HopLimit in the octets is now 6.
+/// If the HopLimit in the octets is now 6, returns the original HopLimit `limit` and the octets.
 fn lent_shown(alloc: Global, limit: Option<u8>, octets: &[u8]) -> Option<String> {
     if hop_limit_of(octets) != Some(6) {
         return None;
@@ -90,7 +90,7 @@ fn lent_shown(alloc: Global, limit: Option<u8>, octets: &[u8]) -> Option<String>
     format!(in alloc; "{limit:?}, then {octets}").ok()
 }
 
-/// Returns the HopLimit `limit`, if the octets are still those of the packet in the row `input`.
+/// If the octets are still those of the packet in the row `input`, returns the HopLimit `limit`.
 fn kept_shown(alloc: Global, limit: Option<u8>, octets: &[u8], input: &str) -> Option<String> {
     if !is_packet(alloc, octets, input) {
         return None;
@@ -151,7 +151,7 @@ fn answers(alloc: Global, input: &str) -> Option<String> {
     answers_in(alloc, &octets, asked.view())
 }
 
-/// Shows what `answers` shows, but for the Data in these octets instead of `DATA`.
+/// Shows what `answers` shows, for the Data in these octets instead of for `DATA`.
 fn answers_in(alloc: Global, octets: &[u8], asked: Name<'_>) -> Option<String> {
     match read_frame(octets).ok()? {
         Frame::Data(data) => answers_shown(alloc, data, asked),

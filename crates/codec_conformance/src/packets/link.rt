@@ -29,9 +29,9 @@ fn with_token(alloc: Global, reason: &str) -> Option<String> {
     hex::encode(alloc, &out).ok()
 }
 
-/// Calls `wrap` for an Interest that follows two other octets in an output. With a token, the
-/// Interest is wrapped in a link packet with this token. Without a token, the Interest stays as it
-/// is. Returns whether the output is `wanted` afterwards.
+/// Calls `wrap` for an Interest that follows two other octets in an output. If `token` is `Some`,
+/// `wrap` must put the Interest into a link packet that has this token. Otherwise `wrap` must leave
+/// the Interest unchanged. Returns whether the output is `wanted` afterwards.
 fn wraps(alloc: Global, token: Option<&[u8]>, wanted: &[u8]) -> bool
     requires { IfSome token (λ t. IsToken t.now) }
 {
@@ -198,8 +198,9 @@ fn other_header_fields(rt: HostRuntime) {
     check_rows(&rt, rt.alloc(), rows, outcome);
 }
 
-/// Of two faulty header fields, the fault of the first one is reported. If a header field is not a
-/// valid TLV element, the TLV fault is reported, even if the type of the field is unknown.
+/// If two header fields are faulty, the fault of the first faulty field is reported. If a header
+/// field is not a valid TLV element, the TLV fault is reported, even if the type of the field is
+/// unknown.
 #[test]
 fn the_first_header_fault(rt: HostRuntime) {
     let rows = "

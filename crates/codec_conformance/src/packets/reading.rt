@@ -208,8 +208,8 @@ fn faults_of_parameters(rt: HostRuntime) {
     check_rows(&rt, rt.alloc(), rows, outcome);
 }
 
-/// A signed command of the management protocol. The parameters digest and the HMAC with the key
-/// "key" were computed by another program.
+/// A signed command of the management protocol. Another program computed the parameters digest, and
+/// the HMAC under the key "key".
 const COMMAND: &str =
     "0598075008096c6f63616c686f737408036e66640803666962080b6164642d6e657874686f70080a680807030801416901020220b3efe71974da9dc26e88d0c074c8f0ff34ea85c38b109d9e9c6400b87694f2f20a040102030424002c1a1b01041c0f070d08036f707308034b45590801312804000f42402e20d113cf38056af9bbbec876471f4b51934978ef69345464b05cb762148eaa5dbb";
 
@@ -263,7 +263,7 @@ fn change_in(input: &str) -> Option<Change<'_>> {
 }
 
 /// Returns the number of changed packets if all of them have the wanted outcome. Otherwise returns
-/// the first other outcome. The wanted outcome `refused` stands for every outcome other than
+/// the first outcome that differs. The wanted outcome `refused` stands for every outcome other than
 /// `read`.
 fn outcomes(packet: &mut [u8], change: &Change<'_>) -> Result<u64, &'static str> {
     let wanted = change.wanted;
@@ -433,7 +433,7 @@ fn unknown_elements(rt: HostRuntime) {
     check_rows(&rt, rt.alloc(), rows, outcome);
 }
 
-/// If a Data has all fields, its name, FreshnessPeriod, Content and signature are read.
+/// The name, the FreshnessPeriod, the Content and the signature of a Data with all fields are read.
 #[test]
 fn fields_of_data(rt: HostRuntime) {
     let rows = "

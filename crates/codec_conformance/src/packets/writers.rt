@@ -24,8 +24,8 @@ fn appended(alloc: Global, fault: Option<&str>, out: &[u8]) -> Option<String> {
     }
 }
 
-/// Reads how to sign: not at all for `-`, with a digest for `digest`, and otherwise by HMAC with
-/// the key "key". The key has the name `key_name`.
+/// Reads how to sign. `-` means no signature, `digest` means a digest, and every other text means
+/// HMAC under the key "key". The key has the name `key_name`.
 fn sign<'a>(asked: &str, key_name: &'a [u8]) -> Option<Option<Sign<'a>>> {
     match asked {
         "-" => Some(None),

@@ -37,13 +37,13 @@ impl Model for Station {
 }
 
 impl Station {
-    /// Returns a station without routes and Data, where the faces 2 and 9 are up. The time is
+    /// Returns a station that has no routes and no Data. The faces 2 and 9 are up, and the time is
     /// 1,000,000 milliseconds.
     pub fn new(alloc: Global) -> Option<Station> {
         Station::of_faces(alloc, 2, 9)
     }
 
-    /// Returns a station without routes and Data, where these two faces are up.
+    /// Returns a station that has no routes and no Data. The faces `first` and `second` are up.
     fn of_faces(alloc: Global, first: u64, second: u64) -> Option<Station> {
         let store = Store::new(alloc, 8).ok()?;
         let mut up = Faces::new();
@@ -617,24 +617,25 @@ fn lists_in_segments(rt: HostRuntime) {
     assert!(rt; played(rt.alloc(), has_two_segments) == Some(true));
 }
 
-/// A signed add-nexthop command for `/A` to face 2, with the time 1000000. The key has the name
-/// `/ops/KEY/1` and the octets `6b6579`.
+/// A signed add-nexthop command that adds a next hop of `/A` on face 2. The time of the command is
+/// 1000000. The key has the name `/ops/KEY/1` and the octets `6b6579`.
 const ADD_NEXTHOP: &str =
     "0598075008096c6f63616c686f737408036e66640803666962080b6164642d6e657874686f70080a680807030801416901020220b3efe71974da9dc26e88d0c074c8f0ff34ea85c38b109d9e9c6400b87694f2f20a040102030424002c1a1b01041c0f070d08036f707308034b45590801312804000f42402e20d113cf38056af9bbbec876471f4b51934978ef69345464b05cb762148eaa5dbb";
 
-/// The Data for the first segment of a dataset of routes. The dataset has version 2 and one route,
-/// for `/A` to face 7.
+/// The Data for the first segment of a dataset of routes. The dataset has version 2. Its only route
+/// leads from `/A` to face 7.
 const LIST_OF_ONE_ROUTE: &str =
     "0666072108096c6f63616c686f737408036e6664080366696208046c6973743601023201001409190203e81a03320100150f800d070308014181066901076a010016031b010017201b52e55cb80faba7d19cc92444e95d0d6409f1ae0cec3b48ddc33107b7684694";
 
-/// Returns whether the name of the signed packet is read as the expected command.
+/// Returns whether the name of the packet `ADD_NEXTHOP` is read as the expected command.
 fn reads_the_packet(alloc: Global) -> Option<bool> {
     let packet = octets(alloc, ADD_NEXTHOP)?;
     let name = NameBuf::from_uri(alloc, "/A").ok()?;
     adds_to_2(&packet, name.view())
 }
 
-/// Returns whether the packet's name is an add-nexthop command for this name to face 2 with cost 0.
+/// Returns whether the packet's name is an add-nexthop command. The command must have the name
+/// `name`, the face 2 and the cost 0.
 fn adds_to_2(packet: &[u8], name: Name<'_>) -> Option<bool> {
     let interest = interest_in(packet)?;
     let command = Command::read(interest.name).ok()?;
@@ -674,15 +675,15 @@ fn add_route_to_7(alloc: Global, station: &mut Station) -> Option<()> {
     add_hop(station, &name, 7)
 }
 
-/// Returns whether the Data of the segment has exactly the expected octets.
+/// Returns whether `packet_of_one_route` returns exactly the octets in `LIST_OF_ONE_ROUTE`.
 fn writes_the_segment(alloc: Global) -> Option<bool> {
     let packet = packet_of_one_route(alloc)?;
     let expected = octets(alloc, LIST_OF_ONE_ROUTE)?;
     Some(packet.as_slice() == expected.as_slice())
 }
 
-/// Returns the Data for the first segment of a dataset. The dataset has one route, for `/A` to face
-/// 7.
+/// Returns the Data for the first segment of a dataset. The only route in the dataset leads from
+/// `/A` to face 7.
 fn packet_of_one_route(alloc: Global) -> Option<Vec<u8>> {
     let mut station = Station::of_faces(alloc, 7, 9)?;
     first_packet(alloc, &mut station)
@@ -735,7 +736,8 @@ fn adds_or_leaves(station: &mut Station, name: &NameBuf) -> bool {
     station.hops(name.view()) == hops
 }
 
-/// Returns whether a reply is written whole or, if memory runs out, leaves the buffer unchanged.
+/// Returns whether `put_response` writes the whole reply or, if memory runs out, leaves the buffer
+/// unchanged.
 fn replies_or_leaves(alloc: Global) -> Option<bool> {
     let mut out = Vec::new(alloc);
     replies_or_leaves_in(&mut out)

@@ -117,8 +117,9 @@ register 680b07030801416901026a0105, register 680e07060801410801426901096c0100, 
     check_rows(&rt, rt.alloc(), rows, answers);
 }
 
-/// Tests expiration periods of 1,000 milliseconds, of 0 milliseconds, and of the greatest u64 of
-/// milliseconds. Also tests a route without an expiration period.
+/// Tests expiration periods of 1,000 milliseconds and of 0 milliseconds, and the greatest period,
+/// which has the greatest u64 as its number of milliseconds. Also tests a route without an
+/// expiration period.
 #[test]
 fn routes_end(rt: HostRuntime) {
     let rows = "
@@ -140,8 +141,8 @@ register 680b07030801416901026a0103, register 680f07030801416901026a01036d0203e8
     check_rows(&rt, rt.alloc(), rows, answers);
 }
 
-/// If a name has two routes with the same face and different origins, the lesser cost is used. Each
-/// of these routes is removed by its origin.
+/// If a name has two routes with the same face and different origins, the lesser cost is used. A
+/// command that removes one of these routes names the route's origin.
 #[test]
 fn routes_of_two_origins(rt: HostRuntime) {
     let rows = "

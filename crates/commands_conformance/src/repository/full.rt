@@ -30,9 +30,9 @@ fn fills(repo: &mut Repo, number: u32) -> bool {
     offer_packet(repo, &octets) == Some(true)
 }
 
-/// Returns whether 65,536 objects and wants fit in total. A further want must then be refused. A
-/// want that is equal to a pending want must be accepted, and so must an insert with the name of a
-/// stored Data.
+/// Returns whether the repository accepts 65,536 objects and wants in total, and then refuses a
+/// further want. A want that is equal to a pending want must be accepted, and so must an insert
+/// with the name of a stored Data.
 fn holds_so_many(repo: &mut Repo) -> bool {
     for number in 0..65_535 {
         if !inserts(repo, number, 100) || !fills(repo, number) {

@@ -1,5 +1,5 @@
-//! Tests of random calls on a repository, compared with plain lists that are searched from end to
-//! end.
+//! Tests of random calls on a repository. The answers are compared with the answers of plain lists,
+//! which are searched from end to end.
 
 use super::{asking, command_on, empty_repo, status_and_count};
 use crate::management::{data_in, interest_in};
@@ -16,7 +16,7 @@ fn begins(first: usize, second: usize) -> bool {
     first == second || (first == 0 && (second == 1 || second == 2))
 }
 
-/// A Data, with the index of its name in `NAMES`, and its digest.
+/// A Data, its digest, and the index of its name in `NAMES`.
 #[derive(Drop)]
 struct Made {
     name: usize,
@@ -31,8 +31,8 @@ struct Wanted {
     deadline: u64,
 }
 
-/// The content of a repository, in plain lists: its objects, as indexes into the list of all Data,
-/// and its wants.
+/// The content of a repository, in two plain lists. One list has the repository's objects, as
+/// indexes into the list of all Data. The other list has the repository's wants.
 #[derive(Drop)]
 struct Plain {
     objects: Vec<usize>,

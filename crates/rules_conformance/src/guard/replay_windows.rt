@@ -23,8 +23,7 @@ fn at_most_120_seconds_from_the_present(rt: HostRuntime) {
     check_rows(&rt, rt.alloc(), rows, freshness);
 }
 
-/// A command with the same time, or the same number, as a recorded command of its signer is not
-/// fresh.
+/// A command is not fresh if a recorded command of its signer has the same time or the same number.
 #[test]
 fn an_equal_time_or_number_is_not_new(rt: HostRuntime) {
     let rows = "

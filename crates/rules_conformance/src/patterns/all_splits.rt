@@ -10,7 +10,7 @@ use std::alloc::Global;
 /// The greatest number of atoms in a pattern of these tests, including two implied atoms.
 const ATOMS: usize = 6;
 
-/// Each component test: its text in a pattern, and the letters that pass the test.
+/// The component tests. For each test: its text in a pattern, and the letters that pass the test.
 const TESTS: [(&str, &[u8]); 6] = [
     ("<>", b"abc"),
     ("<a>", b"a"),
@@ -20,7 +20,8 @@ const TESTS: [(&str, &[u8]); 6] = [
     ("[^<b><a>]", b"c"),
 ];
 
-/// Each repeat: its text in a pattern, its least count, and its greatest count if it has one.
+/// The repeats. For each repeat: its text in a pattern, its least count, and its greatest count if
+/// there is a greatest count.
 const REPEATS: [(&str, usize, Option<usize>); 10] = [
     ("", 1, Some(1)),
     ("*", 0, None),

@@ -34,8 +34,8 @@ fn pattern_and_name(alloc: Global, front: &str) -> Option<(Pattern, NameBuf)> {
     Some((pattern, NameBuf::from_uri(alloc, name).ok()?))
 }
 
-/// Returns whether the match has the groups in `wanted`. If `wanted` is `no match`, returns whether
-/// there is no match.
+/// Matches the pattern with the name. Returns whether the match has the groups in `wanted`. If
+/// `wanted` is `no match`, returns whether there is no match.
 fn has_groups(alloc: Global, pattern: &Pattern, name: Name<'_>, wanted: &str) -> bool {
     match pattern.matches(name) {
         Some(captures) => shown(alloc, &captures).is_some_and(|groups| groups.as_str() == wanted),
@@ -54,8 +54,9 @@ fn is_matched_so(alloc: Global, row: &str) -> bool {
     }
 }
 
-/// Returns whether the match adds `wanted` to the counter of steps. The match is run twice: the
-/// counter begins at 0, and then at a large number.
+/// Matches the pattern with the name twice. The first time, the counter of steps begins at 0. The
+/// second time, the counter begins at a large number. Returns whether each match adds `wanted` to
+/// the counter.
 fn has_steps(pattern: &Pattern, name: Name<'_>, wanted: &str) -> bool {
     let many = u64::MAX - 1_000_000;
     let mut steps = 0;

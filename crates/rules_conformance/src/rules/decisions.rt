@@ -111,8 +111,8 @@ pub fn told_of(alloc: Global, file: &str, keys: &str, packet: &str) -> Option<St
     }
 }
 
-/// Replaces each symbol in a file by the character for which the symbol stands, and then reads the
-/// rules of the file.
+/// Replaces each symbol in a file, such as `␊`, by the character for which the symbol stands, and
+/// then reads the rules of the file.
 fn typed_rules(alloc: Global, file: &str) -> Option<Rules> {
     let text = typed(alloc, file)?;
     rules_of(alloc, text.as_str()).ok()
@@ -230,7 +230,8 @@ any interest /D/x/y → rule 0
 any interest / → no rule
 ";
 
-/// A rule with filters applies exactly if the name passes at least one of its filters.
+/// A rule with filters applies to a packet of its kind exactly if the packet's name passes at least
+/// one of the filters.
 #[test]
 fn filters(rt: HostRuntime) {
     assert_right(&rt, first_wrong_of(rt.alloc(), FILTERS));
@@ -463,8 +464,9 @@ rule {␊ id a␊ for data␊ checker {␊ type customized␊ sig-type hmac-sha2
 data /a/b/c by /a/b/KEY/1 key → denied 0 KeyLocator
 "#;
 
-/// A hyper-relation compares the name expanded from the key's name with the name expanded from the
-/// packet's name. With `is-prefix-of`, the first of these names must be a prefix of the second.
+/// A hyper-relation compares two expanded names. The first name is expanded from the key's name,
+/// and the second name is expanded from the packet's name. With `is-prefix-of`, the first name must
+/// be a prefix of the second name.
 #[test]
 fn hyper_relations(rt: HostRuntime) {
     assert_right(&rt, first_wrong_of(rt.alloc(), HYPER_RELATIONS));
@@ -522,9 +524,9 @@ fn is_ops_decided(alloc: Global, keys: &str, wanted: &str) -> bool {
     told_of(alloc, KEY_OF_NAME_OPS_KEY, keys, packet).is_some_and(|told| told.as_str() == wanted)
 }
 
-/// An Interest's signature covers the name before the parameters digest, and the octets from the
-/// ApplicationParameters on. If the key file has other octets for the key, the tag is wrong. If the
-/// key file has no line for the key, the key is unknown.
+/// An Interest's signature covers the name before the parameters digest, and all octets from the
+/// start of the ApplicationParameters. If the key file has other octets for the key, the tag is
+/// wrong. If the key file has no line for the key, the key is unknown.
 #[test]
 fn both_parts_are_covered(rt: HostRuntime) {
     assert!(rt; is_ops_decided(rt.alloc(), "/ops/KEY 6b6579", "allowed 0"));

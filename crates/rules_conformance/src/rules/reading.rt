@@ -39,8 +39,8 @@ fn is_told_between(alloc: Global, before: &str, row: &str, after: &str) -> bool 
     ))
 }
 
-/// Joins `before`, `inner` and `after`. Then replaces each symbol in the joined text by the
-/// character for which the symbol stands.
+/// Joins `before`, `inner` and `after`. Then replaces each symbol in the joined text, such as `␊`,
+/// by the character for which the symbol stands.
 fn typed_between(alloc: Global, before: &str, inner: &str, after: &str) -> Option<String> {
     let text = format!(in alloc; "{before}{inner}{after}").ok()?;
     typed(alloc, text.as_str())

@@ -5,8 +5,8 @@ use info_rules::{InfoTree, RulesFault, RulesFaultKind};
 use std::alloc::Global;
 use test_support::{first_wrong, typed};
 
-/// Returns an entry in the format of `Debug`. The entry is given as `DEPTH LINE KEY`, followed by
-/// `=VALUE` if it has a value, and then by ` {` if it has a block.
+/// Reads an entry, and returns it in the format of `Debug`. The entry is given as `DEPTH LINE KEY`,
+/// followed by `=VALUE` if it has a value, and then by ` {` if it has a block.
 fn shown_entry(alloc: Global, entry: &str) -> Option<String> {
     let (depth, rest) = entry.split_once(' ')?;
     let (line, rest) = rest.split_once(' ')?;
@@ -21,22 +21,24 @@ fn shown_entry(alloc: Global, entry: &str) -> Option<String> {
     ).ok()
 }
 
-/// Returns a tree in the format of `Debug`. The tree is given as its entries, separated by bars, or
-/// as the word `nothing`.
+/// Reads a tree, and returns it in the format of `Debug`. The tree is given as its entries,
+/// separated by bars, or as the word `nothing`.
 fn shown_tree(alloc: Global, entries: &str) -> Option<String> {
     let shown = shown_entries(alloc, entries)?;
     let front = shown.strip_suffix(", ").unwrap_or(shown.as_str());
     format!(in alloc; "InfoTree {{ entries: [{front}] }}").ok()
 }
 
-/// Returns the entries of a tree in the format of `Debug`, each followed by a comma and a space.
+/// Reads the entries of a tree, and returns them in the format of `Debug`. A comma and a space
+/// follow each entry.
 fn shown_entries(alloc: Global, entries: &str) -> Option<String> {
     let mut shown = String::new(alloc);
     put_entries(alloc, &mut shown, entries)?;
     Some(shown)
 }
 
-/// Appends the entries of a tree in the format of `Debug`, each followed by a comma and a space.
+/// Reads the entries of a tree, and appends them in the format of `Debug`. A comma and a space
+/// follow each entry.
 fn put_entries(alloc: Global, shown: &mut String, entries: &str) -> Option<()> {
     for entry in entries.split(" | ").filter(|entry| *entry != "nothing") {
         shown.push_str(shown_entry(alloc, entry)?.as_str()).ok()?;

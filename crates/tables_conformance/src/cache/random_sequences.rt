@@ -1,4 +1,5 @@
-//! Random calls of a store, compared with a plain list that is searched from end to end.
+//! Random calls on a store. Their results are compared with the results of a plain list, which is
+//! searched from end to end.
 
 use super::put_packet;
 use crate::tables::names_of;
@@ -21,8 +22,8 @@ const NAMES: [&str; 7] = [
     "/AA",
 ];
 
-/// A Data, with the index of its name in `NAMES`, its FreshnessPeriod and its digest. Each name has
-/// two Data.
+/// A Data, its FreshnessPeriod, its digest, and the index of its name in `NAMES`. There are two
+/// Data for each name.
 #[derive(Drop)]
 struct Made {
     packet: Vec<u8>,
@@ -137,7 +138,7 @@ fn put_agrees(
 }
 
 /// Calls `find`, `find_counted` or `serve_at`, chosen at random, and returns the result. Returns
-/// `None` if this call and `place_for` disagree on whether there is a Data. Returns `None` also if
+/// `None` if this call and `place_for` disagree on whether there is a Data. Also returns `None` if
 /// `find_counted` takes more than 17 comparisons.
 fn look_up<'a>(
     store: &'a mut Store,

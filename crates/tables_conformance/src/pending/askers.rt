@@ -14,7 +14,8 @@ ask /A/sha256digest=2d92a383706a615fe67c9a585b00f29c5c06d2abdaec456e9cdc026679eb
 ask /+p 1 7 100, ask /A 2 8 100, askers /A, len, data /A, askers /A -> yes; yes; faces 1 2; 2 false; faces 1 2; faces
 ";
 
-/// `askers` returns the faces to which a Data would be sent. Their Interests stay pending.
+/// `askers` returns the faces to which a Data would be sent. The Interests of these faces stay
+/// pending.
 #[test]
 fn askers(rt: HostRuntime) {
     check_rows(&rt, rt.alloc(), ASKERS, answers);

@@ -30,8 +30,8 @@ ask /A/sha256digest=2d92a383706a615fe67c9a585b00f29c5c06d2abdaec456e9cdc026679eb
 ask /A/sha256digest=6b50b2f9e1b4b6cb6b9a7a4a4c4a2b52f2e4a1f1d8a3a7bd1a2a3b4c5d6e7f80 1 7 9, ask /A 2 8 9, data /A, len -> yes; yes; faces 2; 1 false
 ";
 
-/// A Data goes to all faces with pending Interests that it answers, and these Interests are then no
-/// longer pending.
+/// A Data goes to each face that has a pending Interest which the Data answers. Afterwards, these
+/// Interests are no longer pending.
 #[test]
 fn data_goes_to_all_who_ask_for_it(rt: HostRuntime) {
     check_rows(&rt, rt.alloc(), DATA_GOES_TO_ALL_WHO_ASK_FOR_IT, answers);
@@ -88,9 +88,9 @@ ask /A 1 7 5000, sent /A 1 2 7 0, sent /A 1 3 7 0, nack /A 3 7 50, sent /A 1 3 8
 ask /A 1 7 5000, nack /A 1 7 50, nack /A+f 1 7 50 -> yes; no pending; no pending
 ";
 
-/// When each face to which an Interest was sent has answered with a Nack, the result of the last
-/// Nack has the least reason of these Nacks. A Nack counts only if it has the Nonce that was last
-/// sent to its face.
+/// Suppose that each face to which an Interest was sent has answered with a Nack. Then the result
+/// of the last Nack has the least reason among these Nacks. A Nack counts only if it has the Nonce
+/// that was last sent to its face.
 #[test]
 fn the_least_nack_of_all_faces_asked(rt: HostRuntime) {
     check_rows(&rt, rt.alloc(), THE_LEAST_NACK_OF_ALL_FACES_ASKED, answers);

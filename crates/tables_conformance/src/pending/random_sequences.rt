@@ -1,5 +1,5 @@
-//! Random calls of a table, compared with plain lists of records. For each answer, these lists are
-//! searched from end to end.
+//! Random calls on a table. The answers are compared with the answers of plain lists of records.
+//! For each answer, these lists are searched from end to end.
 
 use super::{OwnedKey, Table, data_at, faces_answered};
 use ndn_packets::*;
@@ -17,8 +17,8 @@ const KEYS: [&str; 6] = [
     "/A/sha256digest=2d92a383706a615fe67c9a585b00f29c5c06d2abdaec456e9cdc026679eb2479",
 ];
 
-/// Names of Data. For each key in `KEYS`, a flag tells whether the Data answers an Interest with
-/// that key.
+/// Names of Data. Each name has a flag for each key in `KEYS`. The flag tells whether a Data with
+/// this name answers an Interest under this key.
 const ANSWERED: [(&str, [bool; 6]); 3] = [
     ("/A", [true, true, true, false, true, true]),
     ("/A/B", [false, true, false, true, true, false]),
@@ -152,7 +152,7 @@ impl Records {
         self.asked.push(one).ok()
     }
 
-    /// Returns whether the last Interest that was sent to the face under the key has the Nack's
+    /// Returns whether the last Interest under the key that was sent to the face has the Nack's
     /// Nonce. If so, also records the reason of the Nack.
     fn note(&mut self, key: usize, face: u64, nonce: u64, reason: u64) -> bool {
         let mut is_pending = false;
@@ -209,13 +209,13 @@ fn is_same(octets: Option<&[u8]>, ask: Option<Asks>) -> bool {
     }
 }
 
-/// Returns whether the table has the same records as `records` for a key and a face.
+/// For a key and a face, returns whether the table has the same records as `records`.
 fn shows(table: &Table, records: &Records, at: usize, key: Key<'_>, face: u64) -> bool {
     is_same(table.pit.interest_of(key, face), records.ask_of(at, face))
         && table.pit.used(key).get(face) == records.moment_of(at, face)
 }
 
-/// Returns whether the table has the same records as `records` for all keys and faces.
+/// For all keys and faces, returns whether the table has the same records as `records`.
 fn shows_all(table: &Table, records: &Records, keys: &[OwnedKey]) -> bool {
     for (at, key) in keys.iter().enumerate() {
         for face in 0..3 {
@@ -312,8 +312,9 @@ fn loop_agrees(
     table.pit.loops(key, one.face, octets_of(one.nonce)) == loops
 }
 
-/// Returns whether the table and the records agree on whether an Interest loops, and the Interest
-/// is then recorded. The field `moment` of `one` is the deadline of the Interest.
+/// Compares the table and the records on whether an Interest loops, and then records the Interest
+/// in both. Returns whether they agree, and the table accepts the Interest. The field `moment` of
+/// `one` is the deadline of the Interest.
 fn ask_agrees(
     table: &mut Table,
     records: &mut Records,

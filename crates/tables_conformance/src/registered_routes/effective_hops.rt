@@ -36,7 +36,8 @@ register /A 2 cost=1 flags=0, register /A 2 cost=9 origin=1, register /A/B 3, of
 ";
 
 /// If a name has routes of several origins on one face, the least cost of these routes counts.
-/// Longer names inherit the least cost among the child-inherit routes only.
+/// Longer names inherit only from the child-inherit routes, and the least cost of those routes
+/// counts.
 #[test]
 fn the_least_cost_counts(rt: HostRuntime) {
     check_rows(&rt, rt.alloc(), THE_LEAST_COST_COUNTS, answers);

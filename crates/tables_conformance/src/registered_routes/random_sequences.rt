@@ -1,5 +1,6 @@
-//! Random calls of a table, compared with plain lists of next hops and routes. To find the
-//! effective next hops of a name, the lists are searched separately for each face.
+//! Random calls on a table. The answers are compared with the answers of plain lists of next hops
+//! and routes. To find the effective next hops of a name, the lists are searched separately for
+//! each face.
 
 use crate::route_table::{Route, RouteTable};
 use crate::tables::names_of;
@@ -309,8 +310,8 @@ fn hops_agree(plain: &Plain, seen: &mut Seen, name: Option<usize>, hops: &Hops) 
     Some(hops.len() == len && are_in_order(hops)?)
 }
 
-/// Returns whether the lookup of a name finds the next hops that the lists give, with at most 4
-/// searches.
+/// Looks up a name. Returns whether the lookup takes at most 4 searches, and finds the next hops
+/// that the lists give.
 fn longest_agrees(
     routes: &RouteTable,
     plain: &Plain,
@@ -324,8 +325,8 @@ fn longest_agrees(
     Some(hops_agree(plain, seen, plain.longest(name), &hops)? && steps <= 4)
 }
 
-/// Returns whether `rows` are all names that have an entry in the plain lists, in canonical order,
-/// each with its effective next hops.
+/// Returns whether `rows` has exactly the names that have an entry in the plain lists. The names
+/// must be in canonical order, and each row must have the effective next hops of its name.
 fn rows_agree(
     rows: &[(NameBuf, Hops)],
     plain: &Plain,

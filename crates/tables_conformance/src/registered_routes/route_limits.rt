@@ -161,7 +161,7 @@ fn refusal(alloc: Global, fib: &Fib, depth: usize) -> Option<Option<TableFault>>
 }
 
 /// Returns whether `route_refusal_of` tells in advance that a route for a name of 33 components is
-/// refused, and that a route for the name `/` is not.
+/// refused, and that a route for the name `/` is not refused.
 fn tells_refusals(alloc: Global, routes: &mut RouteTable) -> Option<bool> {
     let route = Route::new(1, 0);
     let is_told = refusal(alloc, routes.read(), 33)? == Some(TableFault::TooDeep)
@@ -190,9 +190,9 @@ fn finds_33(fib: &Fib, name: Name<'_>) -> Option<bool> {
     Some(steps <= 64 && hops.len() == 33 && first.face == 32 && last.face == 0)
 }
 
-/// Returns whether the lookup of a name of 64 components finds the routes of 33 prefixes, with at
-/// most one search for each component. These routes are on 33 different faces. The route of each
-/// prefix has a lesser cost than the route of the next shorter prefix.
+/// Looks up a name of 64 components. Returns whether the lookup takes at most one search for each
+/// component, and finds the routes of 33 prefixes. These routes are on 33 different faces. The
+/// route of each prefix has a lesser cost than the route of the next shorter prefix.
 fn looks_up_64_components(alloc: Global, routes: &mut RouteTable) -> Option<bool> {
     register_33(alloc, routes)?;
     let deep = deep_name(alloc, 64)?;
