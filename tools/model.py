@@ -123,12 +123,12 @@ def first_fields(component, kind):
 class Node:
     """The state of the node.
 
-    `now` is the node's time, and `up` maps the open faces to their scopes. `version` is the version of the lists of
-    routes and strategies. `hops` maps a name to the costs of its next hops, by face. `pending` maps a name and its
-    flags to a PIT entry.
-    `cached` has pairs of a cached Data and the moment at which it arrived. `last` maps a signer to the time of its last
-    allowed command, and to the last sequence number, if any, of its allowed commands. `wants` maps the name and the
-    CanBePrefix of a pending insert to its deadline. `objects` maps full names to stored Data.
+    `now` is the node's time, and `up` maps the open faces to their scopes. `version` is the version number that the
+    node gives to its list of routes (/localhost/nfd/fib/list). `hops` maps a name to the costs of its next hops, by
+    face. `pending` maps a name and its flags to a PIT entry. `cached` has pairs of a cached Data and the moment at
+    which it arrived. `last` maps a signer to the time of its last allowed command, and to the last sequence number, if
+    any, of its allowed commands. `wants` maps the name and the CanBePrefix of a pending insert to its deadline.
+    `objects` maps full names to stored Data.
     """
 
     def __init__(self, rules, keys):
