@@ -1,5 +1,5 @@
--- If each face of a table is below 63 or is the greatest face number, the table has room for one
--- more face that is below 63 or is the greatest face number.
+-- Suppose that each face of a table, and a further face `face`, is below 63 or is 2^64 - 1. Then
+-- the faces of the table together with `face` are at most 64 (`HasRoomFor`).
 use Rattle.std.proofs.Common.{◌≡◌, ◌⊎◌, inl, inr, ℕ, suc, ◌+◌, ◌-◌, ◌^◌, ◌<◌, ◌≤◌, Bool, true, false, not, cond, List, [], ◌∷◌, length, refl, sym, ap, subst, ◌∙◌, arith, eqb}
 use Rattle.std.proofs.lemmas.Bool.Decides.{nat_tests}
 use Rattle.std.proofs.lemmas.Cmp.{nat_cmp_total}
@@ -27,7 +27,7 @@ IsOurs face = (face < 63) ⊎ (face ≡ 2 ^ 64 - 1)
 abbrev pub AreOurs : Routes → Type 0
 AreOurs routes = (face : ℕ) → LeadsTo routes face → IsOurs face
 
--- ---- room for one more face
+-- ---- at most 64 faces
 
 -- if `f` is the greatest face number, a list whose faces are all greater than `f` is empty
 none_above : (f : ℕ) (l : List ℕ) → f ≡ 2 ^ 64 - 1 → AllByRecursion (λ g. f < g) l → AllByRecursion IsOurs l → length l ≤ 0
