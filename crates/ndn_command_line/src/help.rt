@@ -6,49 +6,51 @@ pub const ABOUT: &str =
     "A Named Data Networking client: it writes, sends and explains packets, and computes HMACs.";
 
 pub const TOOL: &str =
-    "Packets and other octets are given in hexadecimal: two digits for each octet, in upper or lower
-case. URI is the text of a name, such as /A/seg=5. Numbers are decimal.
+    "HEX stands for octets in hexadecimal: two digits for each octet, in upper or lower case. URI is
+the text of a name, such as /A/seg=5. N is a decimal number.
 
-Each line of a key file has the URI of a key's name, a space, and the key in hexadecimal. If there
-are two spaces, the first one belongs to the name. Empty lines, and lines that begin with ;, are
-skipped.
+Each line of a key file has the URI of a key's name, a space, and the key in hexadecimal. Empty
+lines, and lines that begin with ;, are skipped.
 
-Example: a key, an Interest that is signed with the key, and the fields of the Interest.
+Example: write a key file, sign an Interest with its key, and show the fields of the Interest.
   $ echo '/ops/KEY/1 6b6579' > ops.keys
   $ packet=$(ndn_tool interest /A --nonce 01020304 --keys ops.keys --key /ops/KEY/1 --time 1000000)
   $ ndn_tool show $packet
 
-Exit status: 0 if the answer is printed; 1 if a key file has a fault, a key is missing, the name of
-a packet is not valid, a packet is too long, or the octets on the command line are not a packet; 2
-if the command line or standard input is wrong; 3 if reading, writing or sending fails, or if memory
-runs out. With --send, a command has the exit status 0 if the reply has the status 200, or the
-status 100 for an insert. A list has the exit status 0 if all its segments come. Otherwise the exit
-status is 1.";
+Exit status:
+  0  the command line was carried out
+  1  a key file has a fault, or the key that --key names is missing; a packet would be too long, or
+     would have a name that is not allowed; the octets given to show or explain are not a packet
+  2  the command line is wrong, or the standard input of send is not hexadecimal
+  3  reading, writing or sending failed, the subcommand send got no answer, or memory ran out
+
+If route, strategy, cache, repo or peek sends a packet, the exit status is 0 only if one of these
+comes back: for a command, a reply with the status 200; for repo insert, also a reply with the
+status 100; for a list, all its segments; for peek, the Data. If a Nack, another reply or no answer
+comes back, the exit status is 1.";
 
 pub const INTEREST: &str =
-    "With --key the Interest is signed with HmacWithSha256. A signed Interest has parameters. They
-are empty if --parameters is absent. If an Interest has parameters, the parameters digest is
-appended to its name. --time and --seq apply only to a signed Interest. With --token the Interest is
-put into a link packet with this PIT token.
+    "With --key, the Interest is signed with HmacWithSha256. A signed Interest always has
+parameters, which are empty if --parameters is absent. If an Interest has parameters, the parameters
+digest is appended to its name. Without --key, the options --time and --seq have no effect. With
+--token, a link packet is printed, which contains the PIT token and the Interest.
 
 Example: an Interest for /A with the default lifetime of 4,000 milliseconds.
   $ ndn_tool interest /A --nonce 01020304
   050b07030801410a0401020304";
 
-pub const DATA: &str =
-    "Without --key the Data is signed with DigestSha256. With --key it is signed with
-HmacWithSha256.
+pub const DATA: &str = "The signature is HmacWithSha256 with --key, and DigestSha256 without --key.
 
 Example: a Data named /A. Its Content is the letter x.
   $ ndn_tool data /A --content 78
   062f070308014115017816031b01001720e4f0b5aed03446e702356a360c7194c208b8b6a28ff30de430f1baa08ba29266";
 
 pub const COMMAND: &str =
-    "URI is the command's name without its parameters, so it ends with the verb. If URI is under
-/localhost/nfd, the parameters are those of a command to a node, and --lifetime and --can-be-prefix
-have no effect. Otherwise the parameters are those of a command to a repository: --name, --lifetime
-and --can-be-prefix. The options for other parameters then have no effect. Without --key the command
-is signed with DigestSha256.
+    "URI is the name of the command, and ends with its verb. Two components are appended to URI: the
+parameters of the command, and the parameters digest. If URI is under /localhost/nfd, the command is
+for a node, and --lifetime and --can-be-prefix have no effect. Otherwise the command is for a
+repository, and only --name, --lifetime and --can-be-prefix give parameters. The signature is
+HmacWithSha256 with --key, and DigestSha256 without --key.
 
 Example: a signed command that adds a next hop for /A.
   $ echo '/ops/KEY/1 6b6579' > ops.keys
@@ -56,50 +58,81 @@ Example: a signed command that adds a next hop for /A.
       --nonce 01020304 --time 1000000 --keys ops.keys --key /ops/KEY/1";
 
 pub const ROUTE: &str =
-    "VERB is add, remove, register, unregister or list. Each verb except list requires PREFIX and
---face. The verb add allows --cost. The verb register allows --cost, --flags, --expires and
---origin, and replaces a registered route with the same name, face and origin. The verb unregister
-allows --origin. Without --time the signature time is the time of the clock. Without --nonce the
-Nonce is computed from the signature time and the words of the command line. Without --key the
-command is signed with DigestSha256. The verb list allows only --nonce, --send and --from. With
---send, list gets all segments of the list, and prints a table with tabs between its columns.
+    "The verbs, with the arguments that they require and the options of their own:
+  add PREFIX --face N [--cost N]       adds a next hop, or changes its cost
+  remove PREFIX --face N               removes a next hop
+  register PREFIX --face N [--cost N] [--flags N] [--expires MILLISECONDS] [--origin N]
+                                       registers a route, or replaces the registered route that has
+                                       the same name, face and origin
+  unregister PREFIX --face N [--origin N]
+                                       removes a registered route
+  list                                 asks for the list of all routes
 
-Example: add a next hop for /A through face 2, and remove it.
-  $ ndn_tool route add /A --face 2 --keys ops.keys --key /ops/KEY/1
+With --send, the request is sent. Then the fields of the answer are printed. If the request was for
+a list, the list is printed as a table, with tabs between its columns. Without --send, the request
+is only printed, in hexadecimal. The option --from requires --send.
+
+The signature of a command is HmacWithSha256 with --key, and DigestSha256 without --key. If --time
+is absent, the signature time is the time of the clock. If --nonce is absent, the Nonce is computed
+from the arguments and the time. For the verb `list`, only the options --nonce, --send and --from
+are allowed.
+
+Example: send a command from port 7001 to the node at port 6363. The command adds a next hop for /A
+through face 2. Then get the list of routes.
+  $ ndn_tool route add /A --face 2 --keys ops.keys --key /ops/KEY/1 --send 6363 --from 7001
+  $ ndn_tool route list --send 6363 --from 7001
+
+Example: print a command that removes the next hop.
   $ ndn_tool route remove /A --face 2 --keys ops.keys --key /ops/KEY/1
 
-Example: register a route for /A through face 2, which longer names inherit, and which expires after
-an hour. Then unregister the route.
+Example: print a command that registers a route for /A through face 2. Longer names inherit the
+route, and it expires after an hour. Then print a command that removes the route.
   $ ndn_tool route register /A --face 2 --flags 1 --expires 3600000 --keys ops.keys --key /ops/KEY/1
-  $ ndn_tool route unregister /A --face 2 --keys ops.keys --key /ops/KEY/1
+  $ ndn_tool route unregister /A --face 2 --keys ops.keys --key /ops/KEY/1";
 
-Example: the routes of the node at port 6363. The request is sent from the port of a Local peer.
-  $ ndn_tool route list --send 6363 --from 7001";
+pub const STRATEGY: &str = "The verbs, with the arguments that they require:
+  set PREFIX STRATEGY  sets the strategy of a name
+  unset PREFIX         removes the strategy of a name
+  list                 asks for the list of all strategies
+STRATEGY is best-route, multicast or the URI of a strategy.
 
-pub const STRATEGY: &str =
-    "VERB is set, unset or list. The verbs set and unset require PREFIX. The verb set also requires
-STRATEGY; unset does not allow it. STRATEGY is best-route, multicast or the URI of a strategy.
-Without --time the signature time is the time of the clock. Without --nonce the Nonce is computed
-from the signature time and the words of the command line. Without --key the command is signed with
-DigestSha256. The verb list allows only --nonce, --send and --from.
+With --send, the request is sent. Then the fields of the answer are printed. If the request was for
+a list, the list is printed as a table, with tabs between its columns. Without --send, the request
+is only printed, in hexadecimal. The option --from requires --send.
 
-Example: set the strategy of /A to multicast.
+The signature of a command is HmacWithSha256 with --key, and DigestSha256 without --key. If --time
+is absent, the signature time is the time of the clock. If --nonce is absent, the Nonce is computed
+from the arguments and the time. For the verb `list`, only the options --nonce, --send and --from
+are allowed.
+
+Example: print a command that sets the strategy of /A to multicast.
   $ ndn_tool strategy set /A multicast --keys ops.keys --key /ops/KEY/1";
 
 pub const CACHE: &str =
-    "VERB is erase. Without --time the signature time is the time of the clock. Without --nonce the
-Nonce is computed from the signature time and the words of the command line. Without --key the
-command is signed with DigestSha256.
+    "The only verb is erase. With --send, the command is sent, and then the fields of the answer are
+printed. Without --send, the command is only printed, in hexadecimal. The option --from requires
+--send.
 
-Example: erase at most 10 Data under /A.
+The signature is HmacWithSha256 with --key, and DigestSha256 without --key. If --time is absent, the
+signature time is the time of the clock. If --nonce is absent, the Nonce is computed from the
+arguments and the time.
+
+Example: print a command that erases at most 10 Data under /A.
   $ ndn_tool cache erase /A --count 10 --keys ops.keys --key /ops/KEY/1";
 
-pub const REPOSITORY: &str =
-    "VERB is insert, delete or check. PREFIX is the prefix of the repository. Without --time the
-signature time is the time of the clock. Without --nonce the Nonce is computed from the signature
-time and the words of the command line. Without --key the command is signed with DigestSha256.
+pub const REPOSITORY: &str = "The verbs:
+  insert  lets the repository fetch the Data from the network and store it
+  delete  deletes the stored Data that match NAME
+  check   counts the stored Data that match NAME
 
-Example: let the repository get and store the Data /A.
+With --send, the command is sent, and then the fields of the answer are printed. Without --send, the
+command is only printed, in hexadecimal. The option --from requires --send.
+
+The signature is HmacWithSha256 with --key, and DigestSha256 without --key. If --time is absent, the
+signature time is the time of the clock. If --nonce is absent, the Nonce is computed from the
+arguments and the time.
+
+Example: print a command that lets the repository with the prefix /repo store the Data /A.
   $ ndn_tool repo insert /repo /A --keys ops.keys --key /ops/KEY/1";
 
 pub const TAG: &str =
@@ -108,9 +141,12 @@ pub const TAG: &str =
   $ ndn_tool tag 7768617420646f2079612077616e7420666f72206e6f7468696e673f --keys k.keys --key /k
   5bdcc146bf60754e6a042426089575c75a003f089d2739839dec58b964ec3843";
 
-pub const SHOW: &str =
-    "Prints a line for each field of the packet. For an Interest there is always a line for the
-lifetime, and for a Data there is always a line for the freshness. A value of - means no octets.
+pub const SHOW: &str = "Prints a line for each of these parts of the packet:
+  Interest  name, CanBePrefix, MustBeFresh, Nonce, lifetime, HopLimit, parameters, signature
+  Data      name, freshness, Content, signature
+  Nack      reason, and then the lines of the Interest in the Nack
+A part that the packet does not have is left out. But `lifetime 4000` is printed for an Interest
+without a lifetime, and `freshness 0` for a Data without a freshness. The value `-` means no octets.
 
 Example: a Data named /A.
   $ ndn_tool show 060f070308014115017816031b01001700
@@ -120,13 +156,17 @@ Example: a Data named /A.
   signature 0 -";
 
 pub const EXPLAIN: &str =
-    "Prints the lines of show. Also prints the key locator, the time and the sequence number of the
-signature, and what a command, a reply or a list contains. With --keys the signature is checked.
-With - the lines of standard input are explained. If a line has a packet in hexadecimal, alone or
-after > FACE as in the answers to a script, the packet is explained. An empty line is left out. Any
-other line is printed unchanged.
+    "Prints the lines of show, and also these parts of the packet, if it has them: the PIT token;
+the name of the Nack's reason; the key locator, the time and the sequence number of the signature;
+the number of the segment; the fields of the command, the reply or the list; the Content as text.
+With --keys, also prints whether the signature is right.
 
-Example: a Data named /A, signed with a key.
+If HEX is -, the packets in the lines of standard input are explained. A packet in hexadecimal can
+be the whole line, or can follow `> FACE` as in the output of ndn_node. If the octets of such a line
+are not a packet, the reason is printed. An empty line is left out. Any other line is printed
+unchanged.
+
+Example: a Data named /A, with the name of a key, and with an empty signature value.
   $ ndn_tool explain 0620070308014115017816141b01041c0f070d08036f707308034b45590801311700
   data /A
   freshness 0
@@ -136,28 +176,28 @@ Example: a Data named /A, signed with a key.
   text x";
 
 pub const SEND: &str =
-    "Sends the packet as one datagram to the port of --to at 127.0.0.1. Prints the first datagram
-that comes back, in hexadecimal, whatever it contains. With - the packet is read from standard
-input, in hexadecimal. If no answer comes within 4 seconds, the exit status is 3.
+    "Sends the octets as one datagram to a port of 127.0.0.1. Then prints the first datagram that
+comes back, in hexadecimal, whatever it contains. If HEX is -, the octets are read from standard
+input, in hexadecimal. If no datagram comes back within 4 seconds, the exit status is 3.
 
-Example: write an Interest, send it to a node, and explain the answer.
+Example: write an Interest, send it to the node at port 6363, and explain the answer.
   $ ndn_tool interest /A --nonce 01020304 | ndn_tool send - --to 6363 | ndn_tool explain -";
 
 pub const PEEK: &str =
-    "Without --to the Interest is printed in hexadecimal. With --to the Interest is sent to this
-port of 127.0.0.1, and the answer is printed in the format of explain. With --to and --raw only the
-Content of the Data is printed. Without --nonce the Nonce is computed from the time and the words of
-the command line. The exit status is 1 if a Nack comes, or if no answer comes.
+    "With --to, the Interest is sent. Then the Data or the Nack that comes back is printed in the
+format of explain. With --to and --raw, only the Content of the Data is printed. Without --to, the
+Interest is only printed, in hexadecimal. The option --from requires --to. If --nonce is absent, the
+Nonce is computed from the arguments and the time of the clock. If a Nack comes, or if no answer
+comes within 4 seconds, the exit status is 1.
 
 Example: the Content of /A, from the node at port 6363.
   $ ndn_tool peek /A --to 6363 --raw";
 
-pub const TIME: &str = "The signature time, in milliseconds since 1970";
+pub const TIME: &str = "The time of the signature, in milliseconds since 1970";
 
-pub const SEQ: &str = "The sequence number of the signature";
+pub const SEQ: &str = "The sequence number of the signature; none if absent";
 
-pub const FACE: &str =
-    "The face of the next hop or route; 0 is the face on which the command arrives";
+pub const FACE: &str = "The face of the next hop or route; 0 is the face that receives the command";
 
 pub const COST: &str = "The cost of the next hop or route; 0 if absent";
 
@@ -169,17 +209,24 @@ pub const EXPIRES: &str =
 
 pub const ORIGIN: &str = "The origin of the route; 0 if absent";
 
-pub const COUNT: &str = "The greatest number of Data to erase";
+pub const COUNT: &str = "The greatest number of Data to erase; no limit if absent";
 
-pub const LIFETIME: &str = "The InterestLifetime, in milliseconds";
+pub const LIFETIME: &str = "The InterestLifetime in milliseconds; 4000 if absent";
 
-pub const CAN_BE_PREFIX: &str = "The command also applies to Data with longer names";
+pub const WAIT: &str = "How long an insert waits for the Data, in milliseconds; 4000 if absent";
+
+pub const CAN_BE_PREFIX: &str =
+    "Also accepts Data with longer names that begin with the given name";
+
+pub const MUST_BE_FRESH: &str = "Cached Data may answer only while it is fresh";
+
+pub const NONCE: &str = "The Nonce, 4 octets";
 
 pub const KEYS: &str = "The key file";
 
-pub const KEY: &str = "The name of the signing key";
+pub const KEY: &str = "The name of the key that signs";
 
-pub const PORT: &str = "Sends the request to this port of 127.0.0.1, and explains the answer";
+pub const PORT: &str = "Sends the request to this port of 127.0.0.1, and prints the answer";
 
 pub const TO: &str = "The port of 127.0.0.1 to which the packet is sent";
 

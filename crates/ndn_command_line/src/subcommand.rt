@@ -107,20 +107,20 @@ fn interest_command<'a>(alloc: Global) -> Result<Command<'a>, AllocError>
 {
     let arguments = [
         Argument::Positional("URI", "The name"),
-        Argument::Required("nonce", "HEX", "The Nonce, 4 octets"),
-        Argument::Flag("can-be-prefix", "Data with longer names may answer too"),
-        Argument::Flag("must-be-fresh", "Only fresh Data may answer"),
-        Argument::Optional(
-            "lifetime",
-            "N",
-            "The lifetime in milliseconds; 4000 if absent",
-        ),
+        Argument::Required("nonce", "HEX", help::NONCE),
+        Argument::Flag("can-be-prefix", help::CAN_BE_PREFIX),
+        Argument::Flag("must-be-fresh", help::MUST_BE_FRESH),
+        Argument::Optional("lifetime", "N", help::LIFETIME),
         Argument::Optional(
             "hop-limit",
             "N",
-            "The greatest number of hops of the Interest, at most 255",
+            "The HopLimit, at most 255; no limit if absent",
         ),
-        Argument::Optional("parameters", "HEX", "The ApplicationParameters"),
+        Argument::Optional(
+            "parameters",
+            "HEX",
+            "The parameters (ApplicationParameters)",
+        ),
         Argument::Optional("time", "N", help::TIME),
         Argument::Optional("seq", "N", help::SEQ),
         Argument::Optional("keys", "FILE", help::KEYS),
@@ -140,7 +140,7 @@ fn data_command<'a>(alloc: Global) -> Result<Command<'a>, AllocError>
         Argument::Optional(
             "freshness",
             "N",
-            "The FreshnessPeriod of the Data, in milliseconds",
+            "The FreshnessPeriod in milliseconds; 0 if absent",
         ),
         Argument::Optional("keys", "FILE", help::KEYS),
         Argument::Optional("key", "URI", help::KEY),
@@ -153,9 +153,9 @@ fn command_command<'a>(alloc: Global) -> Result<Command<'a>, AllocError>
     ensures { IfOk result (HasApp command_app) }
 {
     let arguments = [
-        Argument::Positional("URI", "The name of the command"),
+        Argument::Positional("URI", "The name of the command, which ends with its verb"),
         Argument::Required("name", "URI", "The Name in the command's parameters"),
-        Argument::Required("nonce", "HEX", "The Nonce, 4 octets"),
+        Argument::Required("nonce", "HEX", help::NONCE),
         Argument::Required("time", "N", help::TIME),
         Argument::Optional("seq", "N", help::SEQ),
         Argument::Optional("face", "N", help::FACE),
@@ -165,7 +165,7 @@ fn command_command<'a>(alloc: Global) -> Result<Command<'a>, AllocError>
         Argument::Optional("expires", "MILLISECONDS", help::EXPIRES),
         Argument::Optional("origin", "N", help::ORIGIN),
         Argument::Optional("count", "N", help::COUNT),
-        Argument::Optional("lifetime", "N", help::LIFETIME),
+        Argument::Optional("lifetime", "N", help::WAIT),
         Argument::Flag("can-be-prefix", help::CAN_BE_PREFIX),
         Argument::Optional("keys", "FILE", help::KEYS),
         Argument::Optional("key", "URI", help::KEY),
@@ -179,14 +179,14 @@ fn route_command<'a>(alloc: Global) -> Result<Command<'a>, AllocError>
 {
     let arguments = [
         Argument::Positional("VERB", "add, remove, list, register or unregister"),
-        Argument::MaybePositional("PREFIX", "The name of the route"),
+        Argument::MaybePositional("PREFIX", "The name prefix of the next hop or route"),
         Argument::Optional("face", "N", help::FACE),
         Argument::Optional("cost", "N", help::COST),
         Argument::Optional("flags", "N", help::FLAGS),
         Argument::Optional("expires", "MILLISECONDS", help::EXPIRES),
         Argument::Optional("origin", "N", help::ORIGIN),
     ];
-    let about = "Adds or removes a next hop, registers or unregisters a route, or lists the routes";
+    let about = "Writes or sends a command for routes, or asks for the list of routes";
     let command = described(alloc, "route", about, help::ROUTE, &arguments)?;
     with_stamp(alloc, command)
 }
@@ -196,10 +196,10 @@ fn strategy_command<'a>(alloc: Global) -> Result<Command<'a>, AllocError>
 {
     let arguments = [
         Argument::Positional("VERB", "set, unset or list"),
-        Argument::MaybePositional("PREFIX", "The name that has the strategy"),
+        Argument::MaybePositional("PREFIX", "The name prefix of the strategy"),
         Argument::MaybePositional("STRATEGY", "The strategy"),
     ];
-    let about = "Sets or unsets a strategy, or lists the strategies";
+    let about = "Writes or sends a command for strategies, or asks for the list of strategies";
     let command = described(alloc, "strategy", about, help::STRATEGY, &arguments)?;
     with_stamp(alloc, command)
 }
@@ -209,10 +209,10 @@ fn cache_command<'a>(alloc: Global) -> Result<Command<'a>, AllocError>
 {
     let arguments = [
         Argument::Positional("VERB", "erase"),
-        Argument::Positional("PREFIX", "The name under which Data are erased"),
+        Argument::Positional("PREFIX", "The name prefix of the Data"),
         Argument::Optional("count", "N", help::COUNT),
     ];
-    let about = "Writes a command that erases Data from the cache";
+    let about = "Writes or sends a command that erases Data from the cache";
     let command = described(alloc, "cache", about, help::CACHE, &arguments)?;
     with_stamp(alloc, command)
 }
@@ -222,12 +222,12 @@ fn repository_command<'a>(alloc: Global) -> Result<Command<'a>, AllocError>
 {
     let arguments = [
         Argument::Positional("VERB", "insert, delete or check"),
-        Argument::Positional("PREFIX", "The name of the repository"),
+        Argument::Positional("PREFIX", "The prefix of the repository"),
         Argument::Positional("NAME", "The name of the Data"),
         Argument::Flag("can-be-prefix", help::CAN_BE_PREFIX),
-        Argument::Optional("lifetime", "N", help::LIFETIME),
+        Argument::Optional("lifetime", "N", help::WAIT),
     ];
-    let about = "Writes a command that inserts, deletes or checks Data in a repository";
+    let about = "Writes or sends a command that inserts, deletes or checks Data in a repository";
     let command = described(alloc, "repo", about, help::REPOSITORY, &arguments)?;
     with_stamp(alloc, command)
 }
@@ -240,7 +240,7 @@ fn tag_command<'a>(alloc: Global) -> Result<Command<'a>, AllocError>
         Argument::Required("keys", "FILE", help::KEYS),
         Argument::Required("key", "URI", "The name of the key"),
     ];
-    let about = "Computes the HMAC with SHA-256 of octets and prints it";
+    let about = "Computes and prints the HMAC-SHA256 of octets";
     described(alloc, "tag", about, help::TAG, &arguments)
 }
 
@@ -270,14 +270,11 @@ fn send_command<'a>(alloc: Global) -> Result<Command<'a>, AllocError>
     ensures { IfOk result (HasApp send_app) }
 {
     let arguments = [
-        Argument::Positional(
-            "HEX",
-            "The packet, or - to send the packet of standard input",
-        ),
+        Argument::Positional("HEX", "The octets, or - to read them from standard input"),
         Argument::Required("to", "PORT", help::TO),
         Argument::Optional("from", "PORT", help::FROM),
     ];
-    let about = "Sends a packet to a node and prints the answer";
+    let about = "Sends octets to a node and prints the answer";
     described(alloc, "send", about, help::SEND, &arguments)
 }
 
@@ -286,15 +283,15 @@ fn peek_command<'a>(alloc: Global) -> Result<Command<'a>, AllocError>
 {
     let arguments = [
         Argument::Positional("URI", "The name"),
-        Argument::Flag("can-be-prefix", "Data with longer names may answer too"),
-        Argument::Flag("must-be-fresh", "Only fresh Data may answer"),
+        Argument::Flag("can-be-prefix", help::CAN_BE_PREFIX),
+        Argument::Flag("must-be-fresh", help::MUST_BE_FRESH),
         Argument::Optional("lifetime", "N", help::LIFETIME),
-        Argument::Optional("nonce", "HEX", "The Nonce, 4 octets"),
+        Argument::Optional("nonce", "HEX", help::NONCE),
         Argument::Flag("raw", "Prints only the Content, unchanged"),
         Argument::Optional("to", "PORT", help::TO),
         Argument::Optional("from", "PORT", help::FROM),
     ];
-    let about = "Gets a Data from a node and explains it";
+    let about = "Writes an Interest; with --to, sends it and explains the answer";
     described(alloc, "peek", about, help::PEEK, &arguments)
 }
 
@@ -304,7 +301,7 @@ fn with_stamp<'a>(alloc: Global, command: Command<'a>) -> Result<Command<'a>, Al
 {
     let arguments = [
         Argument::Optional("time", "N", help::TIME),
-        Argument::Optional("nonce", "HEX", "The Nonce, 4 octets"),
+        Argument::Optional("nonce", "HEX", help::NONCE),
         Argument::Optional("seq", "N", help::SEQ),
         Argument::Optional("keys", "FILE", help::KEYS),
         Argument::Optional("key", "URI", help::KEY),
