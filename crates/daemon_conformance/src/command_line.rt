@@ -124,7 +124,7 @@ ndn_node script 7 => error: unexpected argument '7' found
 ";
 
 const JOURNAL_HELP: &str = "
-ndn_node --help => journal  Leaves out the lines of a journal
+ndn_node --help => journal  Shortens a journal
 ndn_node journal --help => Usage: ndn_node journal [OPTIONS] --shorten <FILE>
 ndn_node journal --help => --repo <URI>
 ";

@@ -29,35 +29,34 @@ pub enum Request {
 const VERSION: &str = "0.1.0";
 
 const ABOUT: &str =
-    "A Named Data Networking node: it forwards Interests by routes and strategies, caches Data and
+    "A Named Data Networking node: it forwards Interests by routes and strategies, and it caches and
 stores Data. A rule file says which commands and which Data the node accepts.";
 
 const ABOUT_SCRIPT: &str = "Runs the script on standard input and prints the node's answers";
 
 const SCRIPTS: &str = "A script has one event on each line, with single spaces between its words:
-  up FACE local|far MOMENT  opens a face: local for a program on this machine, or far
+  up FACE local|far MOMENT  opens a face: local if it leads to a program on this machine, else far
   down FACE MOMENT          closes a face, and removes its routes and pending Interests
   tick MOMENT               lets time pass
   in FACE MOMENT HEX        a packet arrives on a face
-  rules MOMENT HEX HEX      replaces the rules and keys in force by those of the two files
+  rules MOMENT HEX HEX      replaces the rules and the keys: the first HEX is a rule file, and the
+                            second is a key file. If a file has a fault, the line is a bad line
 FACE is the number of a face, from 1. At most 64 faces are open at once. MOMENT is a time in
-milliseconds since 1970. HEX is in hexadecimal, or - for no octets: a packet or, in a `rules` line,
-a rule file and then a key file. A `rules` line is bad if one of the files has a fault. Empty lines,
+milliseconds since 1970. HEX stands for octets in hexadecimal, or is - for no octets. Empty lines,
 and lines that begin with #, are skipped.
 
-The answer to event N is a line `N VERDICT`, and then a line `> FACE HEX` for each packet that the
-node sends. The verdict is one of:
+The answer to event N is a line `N VERDICT`. A line `> FACE HEX` follows for each packet that the
+node sends. The verdict is one of these:
   passed                        the event had its effect
   allowed STATUS RULE           the rule allowed the command; the reply has this status
   data RULE                     the rule allowed the Data
-  denied interest|data WHY RULE the rule denied the command or the Data
+  denied interest|data WHY RULE the rule denied the command or the Data, or the command is not fresh
   no-rule interest|data         no rule applies, so the command or the Data is denied
-  dropped REASON                nothing changed but the time; a looped Interest gets a Nack
-  memory                        memory ran out: no effect, but the cache may have lost Data
+  dropped REASON                only the time changed; an Interest that loops gets a Nack
+  memory                        memory ran out; only the cache may have changed
 
-Without --rules all commands and all Data are denied, until a `rules` line gives rules. Each line of
-a key file has the URI of a key's name, a space, and the key in hexadecimal. If there are two
-spaces, the first one belongs to the name.
+Without --rules, all commands and all Data are denied until a line `rules` gives rules. Each line of
+a key file has the URI of a key's name, a space, and the key in hexadecimal.
 
 Example: an Interest for /A arrives on face 1, and no route leads to /A. The answer is a Nack.
   $ ndn_node script << END
@@ -68,56 +67,56 @@ Example: an Interest for /A arrives on face 1, and no route leads to /A. The ans
   2 passed
   > 1 6418fd032005fd03210196500d050b07030801410a0401020304
 
-Exit status: 0 at the end of the script; 1 if a file has a fault or a line is bad, with
-`rules:LINE: KIND`, `keys:LINE: KIND` or `script:LINE: bad line` on standard error, and an
-explanation on the next line; 2 if the command line is wrong; 3 if input or output fails, or if
-memory runs out.";
+Exit status:
+  0  the script has ended
+  1  a file has a fault, or a line is bad; standard error has `rules:LINE: KIND`, `keys:LINE: KIND`
+     or `script:LINE: bad line`, and then a line that explains the fault
+  2  the command line is wrong
+  3  input or output failed, or memory ran out outside an event";
 
 const ABOUT_UDP: &str = "Runs the node on a UDP port of this machine and prints its answers";
 
 const AFTER_UDP: &str =
-    "The node has one UDP socket, which listens on an address and a port. --listen 6363 means port
-6363 of 127.0.0.1, which only programs on this machine can reach. Other machines can reach a node
-that listens on another address of this machine, such as 192.0.2.1:6363 or [2001:db8::1]:6363. PEERS
-are the endpoints that the node knows from the start, in the form of --listen. The peers have the
-faces 1, 2 and so on, in this order. All peers have the address family of --listen, IPv4 or IPv6.
-The first K peers are Local. They may send commands under /localhost, so they must have a loopback
-address (127.0.0.0/8 or ::1). The other peers are Far. Give at most 64 peers, and each peer only
-once.
+    "ENDPOINT is a port of 127.0.0.1, such as 6363, or an address and a port, such as 192.0.2.1:6363
+or [2001:db8::1]:6363. Only programs on this machine can reach a node on 127.0.0.1. To serve other
+machines, let the node listen on a network address of this machine.
 
-The first turns open the faces of the peers. Each later turn handles a datagram, opens or closes a
-face, or takes new rules and keys. An endpoint that is not a peer is a stranger. The first datagram
-of a stranger opens a Far face with the next number, and is handled in the next turn. A node that
-listens on an address other than a loopback address drops the datagrams of strangers, and only
-counts them, unless --open is given.
+PEERS are endpoints that the node knows from the start: at most 64, each given once, and all with
+the address family of --listen (IPv4 or IPv6). The peers have the faces 1, 2 and so on, in this
+order. The first K peers (--local K) are Local. They may send commands under /localhost, so they
+must have loopback addresses (127.0.0.0/8 or ::1). The other peers are Far. The face of a peer never
+closes while the node runs.
 
-A stranger's face is idle if no datagram came from the stranger for the time of --idle. An idle face
-closes in a turn of its own, before the next datagram is handled. Suppose that another stranger
-sends while 64 endpoints have faces. Then the node closes the stranger's face that has been silent
-longest, if it has been silent for at least 10 seconds. If no face closes, no face opens, and the
-datagram is dropped. The face of a peer never closes. The number of an open face is never used for
-another face.
+An endpoint that is not a peer is a stranger. If the node listens on a loopback address or has
+--open, the first datagram of a stranger opens a Far face, and is handled in a later turn. Otherwise
+the node drops the datagrams of strangers.
 
-Each line of a key file has the URI of a key's name, a space, and the key in hexadecimal. If there
-are two spaces, the first one belongs to the name.
+The face of a stranger becomes idle when nothing has come from the stranger for the time of --idle.
+Before the node handles a datagram, it closes the idle faces, one in each turn. If 64 endpoints have
+faces, and a stranger without a face sends a datagram, the node closes the face of the stranger that
+has been silent longest, but only if this face has been silent for at least 10 seconds. If there is
+no such face, the node drops the datagram. While the node runs, it never gives the same number to
+two faces.
 
-If the file of --rules or --keys has changed, the node reads both files again. The new rules and
-keys take a turn of their own. To change a file, write a new file beside it, and rename the new file
-to the old name. If a file has a fault, the node reports the fault, and the rules and keys in force
-stay.
+A turn handles one event: a face opens or closes, a packet arrives, or the node takes new rules and
+keys. The node prints turn N as `script` prints event N. It reads the time from the machine's clock.
 
-With --journal the node writes a line to FILE for each allowed command, and for each other event
+If the file of --rules or --keys has changed, the node reads both files again, and takes the new
+rules and keys in a turn of their own. To change a file, write a new file beside it, and rename the
+new file to the old name. If a file has a fault, the node reports the fault, and keeps the old rules
+and keys. Each line of a key file has the URI of a key's name, a space, and the key in hexadecimal.
+
+With --journal, the node writes a line to FILE for each allowed command, and for every other event
 that changes faces, routes, strategies, rules or the repository. It writes the line before it sends
-the packets of the event. It writes no line for a route that expires. The next node with FILE
-continues from the state in FILE, even after a crash. The face of a peer stays open if the peer was
-Local and is still Local, or was Far and is still Far. All other faces close. The rules and keys are
-those of --rules and --keys. With --journal these two files must have at most 9985 octets together.
-FILE is a script. It contains the keys. Only one node at a time can use it.
+the packets of the event. It writes no line when a route expires. A node that is started with FILE
+later continues from the state in FILE, even after a crash, but with the rules and keys of its own
+--rules and --keys. A peer keeps its face if its place in PEERS and its scope (Local or Far) are as
+before. All other faces close. The first turns take new rules and keys, and close these faces. FILE
+is a script. It contains the keys. Only one node at a time can use it. The rule file and the key
+file must have at most 9985 octets together.
 
-The output for turn N has the form of the output of `script` for event N: a line `N VERDICT`, and a
-line `> FACE HEX` for each packet that the node sends. The moments of the events are those of the
-machine's clock. With --quiet nothing is printed. The log of --log goes to standard error, with or
-without --quiet. If PEERS directly follow --log, write `--log all` or `--log events`.
+The log goes to standard error, even with --quiet. Between --log and PEERS there must be a value or
+another option: write `--log all` or `--log events`.
 
 Example: a node that takes two turns. In the first turn it opens a face for the client. In the
 second turn it answers the client's Interest for /A with a Nack.
@@ -128,40 +127,51 @@ second turn it answers the client's Interest for /A with a Nack.
   > 1 6418fd032005fd03210196500d050b07030801410a0401020304
   6418fd032005fd03210196500d050b07030801410a0401020304
 
-Exit status: 0 after the turns; 1 if a file has a fault, with `rules:LINE: KIND`, `keys:LINE: KIND`
-or `journal:LINE: KIND` on standard error, and an explanation on the next line; 2 if the command
-line is wrong; 3 if a file cannot be read, if the port, output or the journal fails, or if memory
-runs out.";
+Exit status:
+  0  the node has taken its turns
+  1  a file has a fault; standard error has `rules:LINE: KIND`, `keys:LINE: KIND` or
+     `journal:LINE: KIND`, and then a line that explains the fault
+  2  the command line is wrong
+  3  a file cannot be read; the port, output or the journal failed; or memory ran out outside an
+     event";
 
-const ABOUT_JOURNAL: &str = "Leaves out the lines of a journal that a node no longer needs";
+const ABOUT_JOURNAL: &str = "Shortens a journal: leaves out the lines that a node no longer needs";
 
 const AFTER_JOURNAL: &str =
     "FILE is a journal that `ndn_node udp --journal FILE` wrote. Give the --repo of that node. Stop
 the node first: a journal that is in use is refused.
 
-The shorter journal has the lines that restore the open faces, routes, strategies, rules and the
-repository as they are after the last line of FILE. It also has each signer's last command, and each
-signer's last command with a sequence number, so that no command can be repeated. If one of these
-lines is a command with the status 503, all lines before it stay. If the last line of FILE has no
-LF, it is left out, as at the start of a node. At the end the program adds a line `tick` with the
-time of the last whole line of FILE.
+The program makes a new journal from the lines of FILE that restore the open faces, routes,
+strategies, rules and the repository as they are after the last line of FILE. The new journal also
+has each signer's last command, and each signer's last command with a sequence number, so that a
+replay of an old command is still denied. If the line of a command with the status 503 is kept, all
+lines before it are kept too. If a crash cut the last line of FILE short, the program leaves this
+line out, as a node does when it starts. The new journal ends with a line `tick`, which has the time
+of the last whole line of FILE.
 
-The program replays FILE and the shorter journal on two new nodes. If both nodes have the same
-tables, both journals have the same last rules and keys, and the new journal is shorter, the program
-writes the new journal to FILE.short, and renames FILE.short to FILE. Otherwise FILE stays
-unchanged. Standard output has one line: `FILE: 7 lines, 4 kept` or `FILE: nothing is left out`.
+The program replays FILE on one empty node, and the new journal on another empty node. It compares
+the tables of the two nodes, and the last rules and keys of the two journals. If there is no
+difference, and the new journal is shorter than FILE, the program writes the new journal to
+FILE.short, and renames FILE.short to FILE. Otherwise FILE stays unchanged. Standard output has one
+line: `FILE: 7 lines, 4 kept` or `FILE: nothing is left out`.
 
-Exit status: 0 at the end; 1 if the journal has a bad line, or a line that no node with this --repo
-wrote, with `journal:LINE: KIND` on standard error, and an explanation on the next line; 2 if the
-command line is wrong; 3 if a file or output fails, if memory runs out, or if the journal is in
-use.";
+Exit status:
+  0  the journal was shortened, or nothing is left out
+  1  a line of the journal is bad, or a node with this --repo would not write it, or there are too
+     many lines; standard error has `journal:LINE: KIND`, and then a line that explains the fault
+  2  the command line is wrong
+  3  the journal is in use, a file or output failed, or memory ran out";
 
 const AFTER: &str =
     "`ndn_node script --help`, `ndn_node udp --help` and `ndn_node journal --help` describe the
 subcommands.
 
-Exit status: 0 at the end; 1 if a file or a script has a fault; 2 if the command line is wrong; 3 if
-a file cannot be read, if the port, input or output fails, or if memory runs out.";
+Exit status:
+  0  the job is done
+  1  a file or a script has a fault
+  2  the command line is wrong
+  3  a file cannot be read or written; the port, input or output failed; a journal is in use; or
+     memory ran out outside an event";
 
 /// Reads the arguments of a command line. The first argument is the program's name.
 pub fn request_of<S: AsStr>(alloc: Global, arguments: &[S]) -> Result<Request, Fault>
@@ -244,30 +254,30 @@ fn udp_command<'a>(alloc: Global) -> Result<Command<'a>, AllocError> {
             alloc,
             "listen",
             "ENDPOINT",
-            "Where the node listens: a port of 127.0.0.1, or ADDRESS:PORT",
+            "The endpoint on which the node listens",
         ))?
         .arg(required_option(
             alloc,
             "turns",
             "N",
-            "The number of turns; the node handles one event in each turn",
+            "The number of turns until the node exits; each turn handles one event",
         ))?
         .arg(option(
             alloc,
             "local",
             "K",
-            "The first K peers are Local, and must be on this machine; 0 if absent",
+            "The first K peers are Local, and must have loopback addresses; 0 if absent",
         ))?
         .arg(option(
             alloc,
             "idle",
             "SECONDS",
-            "The seconds of silence until a stranger's face closes; 600 if absent",
+            "The seconds of silence until the face of a stranger is idle; 600 if absent",
         ))?
         .arg(flag(
             alloc,
             "open",
-            "Accepts datagrams of strangers on any address",
+            "Accepts datagrams of strangers, whatever address the node listens on",
         ))?
         .arg(log_option(alloc))?
         .arg(option(
@@ -276,11 +286,7 @@ fn udp_command<'a>(alloc: Global) -> Result<Command<'a>, AllocError> {
             "FILE",
             "Records faces, routes, strategies, rules and repository in FILE for the next start",
         ))?
-        .arg(flag(
-            alloc,
-            "quiet",
-            "Prints no answers; faults still go to standard error",
-        ))?;
+        .arg(flag(alloc, "quiet", "Prints nothing on standard output"))?;
     with_node(alloc, command)?.arg(peers(alloc))
 }
 
@@ -292,7 +298,7 @@ fn journal_command<'a>(alloc: Global) -> Result<Command<'a>, AllocError> {
             alloc,
             "shorten",
             "FILE",
-            "The journal; no node may be using it",
+            "The journal; stop the node that uses it first",
         ))?
         .arg(repo_option(alloc))
 }
@@ -300,13 +306,8 @@ fn journal_command<'a>(alloc: Global) -> Result<Command<'a>, AllocError> {
 /// Adds the options of a node to the command.
 fn with_node<'a>(alloc: Global, command: Command<'a>) -> Result<Command<'a>, AllocError> {
     command
-        .arg(option(
-            alloc,
-            "rules",
-            "FILE",
-            "The rule file; without one, no rules",
-        ))?
-        .arg(option(alloc, "keys", "FILE", "The key file; without one, no keys"))?
+        .arg(option(alloc, "rules", "FILE", "The rule file; no rules if absent"))?
+        .arg(option(alloc, "keys", "FILE", "The key file; no keys if absent"))?
         .arg(repo_option(alloc))?
         .arg(option(
             alloc,
@@ -322,14 +323,14 @@ fn repo_option<'a>(alloc: Global) -> Arg<'a> {
         alloc,
         "repo",
         "URI",
-        "The repository's prefix; /repo if absent",
+        "The prefix of the repository; /repo if absent",
     )
 }
 
 /// Returns the argument for the addresses and ports of the peers.
 fn peers<'a>(alloc: Global) -> Arg<'a> {
     Arg::new(alloc, "PEERS").num_args(0..).help(
-        "The peers, in the form of --listen; they have the faces 1, 2 and so on",
+        "The endpoints of the peers, which have the faces 1, 2 and so on",
     )
 }
 
@@ -340,7 +341,7 @@ fn log_option<'a>(alloc: Global) -> Arg<'a> {
         alloc,
         "log",
         "all",
-        "Logs commands, new rules, denials and drops to standard error; with `all`, every event",
+        "Logs commands, new rules, denials, drops and failures; with `all`, logs every event",
     )
     .num_args(0..=1)
     .default_missing_value("events")
