@@ -65,8 +65,8 @@ stands_at (part ∷ parts) zero d lt h = h.0
 stands_at (part ∷ parts) (suc i) d lt h = stands_at parts i d (omega arith) h.1
 
 -- If the name that all parts expand to has at most 64 components, the name up to and including the
--- part at index `i` has at most 64 components too. If each part can be in a name, so can the part
--- at index `i`.
+-- part at index `i` has at most 64 components too. If all parts satisfy `CanStand`, the part at
+-- index `i` satisfies it too.
 pub part_fits : {X : Type 0} (captures : List (ℕ × ℕ)) (cs : List Field) (shown : X → PlainPart) (xs : List X) (i : ℕ) (x : X) → i < length xs → x ≡ get_or xs i x
     → AllByRecursion CanStand (map shown xs) → length (expansion_of (map shown xs) captures cs) ≤ 64
     → CanStand (shown x) × (length (expansion_of (map shown (take i xs)) captures cs) + length (part_of captures cs (shown x)) ≤ 64)

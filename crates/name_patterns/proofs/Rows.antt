@@ -37,8 +37,9 @@ pub nil_at_end : (cs : List Field) → first_count [] (drop (length cs) cs) ≡ 
 unfolding first_count
 nil_at_end cs = rw (drop-length cs) refl
 
--- The empty list of atoms has a split from the end of the name only. So `AreSplit` holds for the
--- empty list and for a set `places` whose only position is the end of the name.
+-- The end of the name is the only position from which the empty list of atoms has a split. So
+-- `AreSplit` holds for the empty list and for a set `places` whose only position is the end of the
+-- name.
 pub last_split : (cs : List Field) (len places : ℕ) → length cs ≡ len → has_place places len ≡ true
     → ((place : ℕ) → place ≢ len → has_place places place ≡ false) → AreSplit [] cs places
 last_split cs len places len_is there other place low =
@@ -130,7 +131,7 @@ drop_map_end f [] = refl
 drop_map_end f (x ∷ xs) = drop_map_end f xs
 
 -- if `places` are the positions from which the empty list of atoms has a split, `places` are also
--- the positions from which a list has a split once all its atoms are dropped
+-- the positions from which a list of atoms has a split after all its atoms are dropped
 pub after_all : {X : Type 0} (f : X → PlainAtom) (xs : List X) (cs : List Field) (places : ℕ) → AreSplit [] cs places → AreSplit (drop (length xs) (map f xs)) cs places
 after_all f xs cs places are = rw (drop_map_end f xs) are
 

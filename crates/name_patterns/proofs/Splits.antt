@@ -182,9 +182,10 @@ some_splits atoms cs (Some k) counts h split = refl
 abbrev AreSearched : List PlainAtom → Type 0
 AreSearched atoms = (cs : List Field) → IsSearched atoms cs (first_count atoms cs)
 
--- If `count ∷ counts` is a split, `count` is at most the upper bound of `atom`. `count` is also at
--- most the number of components before the first component that fails the test of `atom`. The other
--- atoms have a split of the components that follow the first `count` components.
+-- If `count ∷ counts` is a split, `count` is at most the upper bound of `atom`, if `atom` has an
+-- upper bound. `count` is also at most the number of components before the first component that
+-- fails the test of `atom`. The other atoms have a split of the components that follow the first
+-- `count` components.
 taken : (atom : PlainAtom) (atoms : List PlainAtom) (cs : List Field) (count : ℕ) (counts : List ℕ) → AreSearched atoms → IsSplit (atom ∷ atoms) cs (count ∷ counts)
     → (count ≤ at_most atom.bounds.most (run_of atom.test cs)) × (is_some (first_count atoms (drop count cs)) ≡ true)
 taken atom atoms cs count counts following split = (
@@ -202,7 +203,7 @@ no_split atom atoms cs following e (count ∷ counts) split =
     no_greatest (λ n. is_some (first_count atoms (drop n cs))) atom.bounds.least (at_most atom.bounds.most (run_of atom.test cs)) e count split.0 t.0 t.1
 
 -- if `k` is the greatest possible first count, and `best` is the greatest split of the components
--- after the first `k`, every split is at most `k ∷ best`
+-- after the first `k` components, every split is at most `k ∷ best`
 not_greater : (atom : PlainAtom) (atoms : List PlainAtom) (cs : List Field) (k : ℕ) (best : List ℕ) → AreSearched atoms
     → IsGreatest (λ n. is_some (first_count atoms (drop n cs))) atom.bounds.least (at_most atom.bounds.most (run_of atom.test cs)) k
     → IsGreatestSplit atoms (drop k cs) best

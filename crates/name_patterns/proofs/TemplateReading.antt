@@ -145,7 +145,7 @@ template_only groups text (Ok read) e parts h = done_is read parts (sym e ∙ te
 template_only groups text (Err fault) (inl e) parts h = absurd cc (sym (template_again groups text parts h) ∙ e)
 template_only groups text (Err fault) (inr e) parts h = e
 
--- the components of a template can be in a name
+-- all parts of a template satisfy `CanStand`
 pub template_stands : (groups : ℕ) (text : List ℕ) (parts : List PlainPart) → IsTemplate groups text parts → AllByRecursion CanStand parts
 template_stands groups text [] h = tt
 template_stands groups text (OfGroup n ∷ parts) h = (tt, template_stands groups h.1 parts h.4)

@@ -64,13 +64,15 @@ listed_within (suc n) text = option_map_or
     (quoted_in text) (list_end text)
 
 -- the test of a list of one or more texts, read up to the bracket that closes the list, or `None`
+-- if there is no such list at the front of the text
 abbrev pub list_in : (List Field → PlainTest) → List ℕ → Option (FrontPart PlainTest)
 list_in test text = do
   listed ← listed_within (length text) text
   if length listed.part == 0 then None
       else Some (record { part = test listed.part; is_inner = listed.is_inner; rest = listed.rest })
 
--- the test of a list, read from the text after its opening bracket, or `None`
+-- the test of a list, read from the text after its opening bracket, or `None` if there is no such
+-- list
 abbrev pub bracketed_in : List ℕ → Option (FrontPart PlainTest)
 bracketed_in [] = list_in OneOf []
 bracketed_in (o ∷ text) = if o == 94 then list_in NoneOf text else list_in OneOf (o ∷ text)
@@ -90,14 +92,15 @@ unfoldable pub test_in : List ℕ → Option (FrontPart PlainTest)
 test_in [] = None
 test_in (o ∷ text) = if o == 91 then bracketed_in text else quoted_test_in (o ∷ text)
 
--- the number from 0 to 64 that a text represents in decimal digits, or `None`
+-- the number from 0 to 64 that a text represents in decimal digits, or `None` for any other text
 abbrev pub count_in : List ℕ → Option ℕ
 count_in text =
     if all_ascii_digits text && (nat_lt 0 (length text) && nat_le (digits_value 10 text) 64)
     then Some (digits_value 10 text) else None
 
--- The range whose text has `low` before its comma and `high` after it, or `None`. An empty `low` is
--- 0, and an empty `high` sets no upper bound. If both texts are empty, the result is `None`.
+-- The range whose text has `low` before its comma and `high` after it, or `None` if this text is
+-- not a range. An empty `low` is 0, and an empty `high` sets no upper bound. If both texts are
+-- empty, the result is `None`.
 abbrev pub range_by_comma : List ℕ → List ℕ → Option Bounds
 range_by_comma low high =
     if length high == 0 then (do

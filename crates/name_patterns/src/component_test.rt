@@ -81,7 +81,7 @@ impl Test {
     }
 }
 
-/// Returns whether a component is one of those in `texts`.
+/// Returns whether `candidate` is one of the components in `texts`.
 fn is_among(candidate: Component<'_>, texts: &[Text]) -> bool
     ensures { result ≡ is_among (component candidate.entry) (map field_of texts.now) }
 {

@@ -122,8 +122,8 @@ fn append_part(
     ensures ok { OnOk result
         (expanded.new ≡ expanded.old ++ template.part_of captures.now (components name.entry)
         (part_of part.now)) }
-    // If the part can be in a name, and the result has at most 64 components, the call fails only
-    // if memory runs out.
+    // If the part is a group or a valid component, and the result has at most 64 components, the
+    // call fails only if memory runs out.
     ensures room { CanStand (part_of part.now)
         → length expanded.old + length
         (template.part_of captures.now (components name.entry) (part_of part.now)) ≤ 64
