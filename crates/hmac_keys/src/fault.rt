@@ -10,7 +10,7 @@ use thiserror::Error;
 #[derive(Clone, Copy, Debug, PartialEq, Eq, Error)]
 pub enum KeyFault {
     /// The line is not the URI of a nonempty name, a space, and 1 to 256 octets in hexadecimal. The
-    /// number 0 means that the file is not UTF-8.
+    /// line number 0 means that the file is not UTF-8.
     #[error("line {0} does not have a name and the octets of a key, such as /ops/KEY/1 6b6579")]
     BadLine(u64),
     /// The key of the line has the same name as the key of an earlier line.
@@ -39,8 +39,8 @@ impl KeyFault {
         }
     }
 
-    /// Returns the number of the faulty line, if the fault has one. The first line has number 1.
-    /// The number 0 means that the file is not UTF-8.
+    /// Returns the number of the faulty line, or `None` if the fault has no line number. The first
+    /// line has number 1. The number 0 means that the file is not UTF-8.
     pub fn line(self) -> Option<u64>
         ensures { result ≡ fault_line self }
     {

@@ -8,8 +8,9 @@ use sha2::{Digest, Sha256};
 /// The length of a block of SHA-256, in octets.
 const BLOCK_LEN: usize = 64;
 
-/// The outer pad: for the outer hash, each octet of the key's block is combined with this octet by
-/// XOR. For the inner hash, each octet is combined with `INNER_PAD`, the inner pad, instead.
+/// The outer pad, which is one octet. For the outer hash, each octet of the key's block is combined
+/// with the outer pad by XOR. For the inner hash, each octet of the key's block is combined with
+/// `INNER_PAD`, the inner pad, instead.
 const OUTER_PAD: u8 = 0x5c;
 
 const INNER_PAD: u8 = 0x36;

@@ -81,8 +81,9 @@ plain_found a text octets e sign slash found =
     let b = before_found a (octets_in text) octets (sym (octets_plain a text sign) ∙ e) in
     subst (StandsFor (a ∷ text)) (sym b.2) (a ∷ [], text, refl, inl (refl, sign, slash), found b.0 b.1)
 
--- if a text begins with an escape, and the text after the escape satisfies `StandsFor` for the
--- octets that it reads as, the whole text satisfies `StandsFor` for the octets that it reads as
+-- Let a text begin with an escape. If `StandsFor` holds for the text after the escape and the
+-- octets that are read from the text after the escape, then `StandsFor` holds for the whole text
+-- and the octets that are read from the whole text.
 escaped_found : (a b c : ℕ) (text octets : List ℕ) → octets_in (a ∷ b ∷ c ∷ text) ≡ Ok octets → a ≡ 37
     → ((others : List ℕ) → octets_in text ≡ Ok others → StandsFor text others) → StandsFor (a ∷ b ∷ c ∷ text) octets
 escaped_found a b c text octets e is found =

@@ -77,8 +77,9 @@ pub(crate) fn first_piece(text: &str) -> (&str, &str)
     }
 }
 
-/// Returns the number of components in the name that the pieces of `text` between slashes read as.
-/// Returns the first fault if the pieces are not a name.
+/// Reads each piece of `text` as one component of a name, and returns the number of components. A
+/// piece ends before a slash or at the end of `text`. After a slash at the end there is no piece.
+/// Returns the first fault if the pieces are not the components of a name.
 fn count_pieces(text: &str) -> Result<usize, NameFault>
     ensures { let name_in = read.components_in 0 (read.pieces_of text.now) in
         MatchResult result (λ n. (cs : List Field) × (name_in ≡ Ok cs) × (n ≡ length cs))
@@ -98,7 +99,8 @@ fn count_pieces(text: &str) -> Result<usize, NameFault>
     Ok(count)
 }
 
-/// Appends the TLV-VALUE of the name that the pieces of `text` between slashes read as.
+/// Reads each piece of `text` as one component of a name, and appends the TLV-VALUE of this name.
+/// The pieces are those that `count_pieces` reads.
 fn put_pieces(out: &mut Vec<u8>, text: &str) -> Result<(), NameFault>
     ensures { let name_in = read.components_in 0 (read.pieces_of text.now) in
         MatchResult result (λ _. read.Adds octets_of name_in out.old.items out.new.items)
@@ -190,7 +192,7 @@ pub fn uri_len(text: &str) -> Result<usize, NameFault>
 }
 
 impl NameBuf {
-    /// Reads URI text from left to right, for example `/A/seg=5`. The text may begin with the
+    /// Reads URI text, for example `/A/seg=5`, from left to right. The text may begin with the
     /// scheme `ndn:` and end with a slash.
     ///
     /// Returns the first fault in text order. The fault of the 65th component is always
