@@ -1,4 +1,4 @@
--- The reader accepts exactly the TLV-VALUEs of Nacks of the grammar.
+-- The reader accepts exactly the octets that are the TLV-VALUE of a Nack in the grammar.
 use Rattle.std.proofs.Common.{◌≡◌, ℕ, List, ◌++◌, map, Option, Some, None, Ok, refl, sym, ap, subst, ◌∙◌}
 use Rattle.std.specs.Prelude.{unwrap_or}
 use Rattle.std.proofs.lemmas.List.{append-nil}

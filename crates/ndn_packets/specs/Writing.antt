@@ -273,7 +273,8 @@ abbrev pub nack_headers : Option ℕ → List Field
 nack_headers None = []
 nack_headers (Some reason) = (NACK, octets ((NACK_REASON, shortest_nni reason) ∷ [])) ∷ []
 
--- the header fields of a link packet: the PIT token and the Nack, each if given
+-- the header fields of a link packet: the PIT token, if a token is given, and the Nack, if a reason
+-- is given
 abbrev pub lp_headers : Option (List ℕ) → Option ℕ → List Field
 lp_headers token nack = optional PIT_TOKEN token ++ nack_headers nack
 

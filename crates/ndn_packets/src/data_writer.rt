@@ -29,7 +29,7 @@ pub struct DataWriter<'a> {
     pub name: Name<'a>,
     /// The FreshnessPeriod in milliseconds.
     pub freshness: Option<u64>,
-    /// The segment number of the last segment, which is written as the FinalBlockId.
+    /// The segment number of the last segment. This number is written as the FinalBlockId.
     pub last: Option<u64>,
     /// The value of the Content.
     pub content: Option<&'a [u8]>,

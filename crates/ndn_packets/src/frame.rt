@@ -101,7 +101,8 @@ fn frame_of(octets: &[u8]) -> Result<Frame<'_>, PacketFault>
 /// If the octets are not a frame, returns the first fault from the left: see `PacketFault`. A token
 /// that does not have 1 to 32 octets, or a second token, has the fault `LpField`.
 pub fn read_lp(octets: &[u8]) -> Result<Framed<'_>, PacketFault>
-    // If a frame is returned, the octets are this frame, with this token, in the grammar.
+    // If a frame is returned, the octets are this frame in the grammar, with the returned PIT token
+    // or, if no token is returned, without a PIT token.
     ensures found { IfOk result (λ framed. IsFramed octets.now (plain_framed framed)) }
     // If the octets are a frame in the grammar, this frame is returned with its token.
     ensures only { (framed : PlainFramed) → IsFramed octets.now framed

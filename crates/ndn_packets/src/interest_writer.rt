@@ -136,7 +136,8 @@ impl InterestWriter<'_> {
         Some(count + usize::from(self.has_digest()))
     }
 
-    /// Returns whether the written Interest has ApplicationParameters, and so a digest in its name.
+    /// Returns whether the written Interest has ApplicationParameters. If it has
+    /// ApplicationParameters, its name has a digest of parameters.
     #[inline(always)]
     fn has_digest(&self) -> bool
         ensures { result ≡ not (is_nil (later_fields self.now self.now.sign)) }

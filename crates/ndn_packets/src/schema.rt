@@ -32,9 +32,9 @@ impl Rules {
     }
 }
 
-/// Returns whether an element of type `kind` is a field only if the last field before this element
-/// has the type that directly precedes `kind` in the schema. Ignored elements may come between that
-/// field and this element.
+/// Returns whether the type `kind` needs the previous field. An element of such a type is a field
+/// only if the last field before this element has the type that directly precedes `kind` in the
+/// schema. Ignored elements may come between that field and this element.
 #[inline(always)]
 pub fn needs_previous_field(kind: u32) -> bool
     ensures { result ≡ needs_previous_field kind }
