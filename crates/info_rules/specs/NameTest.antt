@@ -73,9 +73,9 @@ second_fault tested line keys form =
     on_option (λ second. Some (record { line = second.1; kind = BadValue }))
     (half_fault line keys form) (first_other tested (Some form) keys)
 
--- The fault of a block if it does not state its requirement in exactly one form, otherwise `None`.
--- If no key belongs to a form, the fault is `Missing`. If a key belongs to a form, the result is
--- that of `second_fault` for the form of the first such key.
+-- The fault of a block if the block does not state its requirement in exactly one form, otherwise
+-- `None`. If no key belongs to a form, the fault is `Missing`. If a key belongs to a form, the
+-- result is that of `second_fault` for the form of the first such key.
 unfoldable pub form_fault : Tested → ℕ → List Block → Option RulesFault
 form_fault tested line keys = on_option (λ first. second_fault tested line keys first.0)
     (Some (record { line = line; kind = Missing })) (first_other tested None keys)

@@ -82,7 +82,7 @@ tokens_from mode line (o ∷ text) =
     with_ended line (ended_by mode o) (tokens_from (mode_after mode o) (line_after line o) text)
 
 -- the number of octets before the closing quote, if the quoted text is closed on its line;
--- `escaped` is true if the octet directly before these octets is a backslash
+-- `escaped` is true if the octet directly before the given octets is a backslash
 unfoldable pub quoted_len : Bool → List ℕ → Option ℕ
 quoted_len escaped [] = None
 quoted_len escaped (o ∷ text) =

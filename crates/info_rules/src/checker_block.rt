@@ -32,8 +32,8 @@ fn is_hierarchical(checker_type: FoundType) -> bool
 }
 
 /// Reads the requirement of a checker on the key's name, if the block has one. The requirement of a
-/// hierarchical checker is `Hierarchical`, and its block has no key locator. For a checker that is
-/// not hierarchical, the first `key-locator` states the requirement.
+/// hierarchical checker is `Hierarchical`, and the block of such a checker has no key locator. For
+/// a checker that is not hierarchical, the first `key-locator` states the requirement.
 #[tactic(auto, unfolding(crate::specs::LocatorBlock::locator_in))]
 fn read_test(alloc: Global, hierarchical: bool, keys: Keys<'_>) -> Read<Option<LocatorTest>>
     ensures { IfOk result (λ found. found ≡ spec.locator_of hierarchical (keys_of keys.entry)) }

@@ -123,8 +123,8 @@ impl Rules {
     }
 
     /// Decides whether to allow a packet. The first rule that applies decides. The checkers check
-    /// the signature for the octets of the packet as they were received. If the name of an Interest
-    /// ends with a parameters digest, the rules see the name without this digest.
+    /// the signature against the octets of the packet as received. If the name of an Interest ends
+    /// with a parameters digest, the rules see the name without this digest.
     ///
     /// Memory is needed only if the first rule that applies has a checker whose hyper-relation
     /// expands both the key's name and the packet's name, each to at most 64 components. A packet

@@ -2,7 +2,7 @@
 
 /// A key of a rule file, with its value and whether it has a block. The entries of the block follow
 /// this entry and have a greater depth. The block ends before the next entry whose depth is not
-/// greater than that of this entry.
+/// greater than that of this entry, or with the last entry if there is no such entry.
 #[derive(Debug, Drop)]
 pub struct Entry {
     /// The number of blocks around the key.

@@ -34,8 +34,8 @@ fn second_fault(tested: Tested, line: u32, keys: Keys<'_>, form: Form) -> Option
     }
 }
 
-/// Returns the fault of a block if it does not state its requirement in exactly one form, otherwise
-/// `None`. `line` is the line of the key that has the block.
+/// Returns the fault of a block if the block does not state its requirement in exactly one form,
+/// otherwise `None`. `line` is the line of the key that has the block.
 #[tactic(auto, unfolding(crate::specs::NameTest::form_fault))]
 fn form_fault(tested: Tested, line: u32, keys: Keys<'_>) -> Option<RulesFault>
     ensures { result ≡ spec.form_fault (tested_of tested) line (keys_of keys.entry) }

@@ -5,7 +5,7 @@ ghost use Rattle.info_rules.specs.Faults.{after, IsAmong, NoneIsSooner};
 
 use crate::fault::RulesFault;
 
-/// The fault to report, of the faults that were found so far, or `None` if no fault was found.
+/// The fault to report among the faults that were found so far, or `None` if no fault was found.
 pub type Report = Option<RulesFault>;
 
 /// Adds `fault` to the report, which keeps only the soonest fault in the order of `is_sooner`.
