@@ -242,7 +242,7 @@ all_get P [] n e h at = absurd cc
 all_get P (u ∷ us) zero e h at = subst P (same_Some u e at) h.0
 all_get P (u ∷ us) (suc n) e h at = all_get P us n e h.1 at
 
--- once the new row is inserted into the rows, the evicted row is one of the rows
+-- after the new row is inserted into the rows, the evicted row is one of the rows
 pub displaced_there : (rows : List Placed) (used : LruCache ℕ ℕ) (s p at : ℕ) (row : Row) (e : ℕ × ℕ) → Sound rows used.entries s → lookup (nat_eq p) rows ≡ None
     → displaced nat_eq used s p ≡ Some e → IsSome (lookup (nat_eq e.1) (insert rows at (p, row)))
 displaced_there rows used s p at row e sound absent is =

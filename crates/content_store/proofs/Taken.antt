@@ -73,9 +73,9 @@ one_taken name xs ys n c h least fewer =
           ];
     }
 
--- for at most 65,536 cached Data, `Erases` is true if the n ≤ `most` Data with the least full names
--- that begin with `name` are removed, and n is `most` or no remaining full name begins with `name`;
--- `most` is the count, or 2^64 - 1 if there is no count
+-- Let at most 65,536 Data be cached, and let n of them be removed, where n ≤ `most`: those with the
+-- least full names that begin with `name`. If n is `most`, or no remaining full name begins with
+-- `name`, then `Erases` is true. `most` is the count, or 2^64 - 1 if there is no count.
 pub erases : (name : List Field) (count : Option ℕ) (xs ys : List CachedData) (n most : ℕ) → most ≡ unwrap_or count 18446744073709551615 → TakesLeast name xs ys n → n ≤ most
     → (n ≡ most) ⊎ All (λ d. IsPrefix name (full_name_of d) → ⊥) ys → length xs ≤ 65536 → Erases name count xs ys n
 erases name None xs ys n most is taken le ended few = (

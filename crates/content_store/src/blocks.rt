@@ -11,8 +11,8 @@ use slab::Slab;
 /// A block with more rows than this number is split in two, unless memory runs out.
 const MAX_BLOCK: usize = 512;
 
-/// The list positions from `start` up to, but not including, `end`, and the freshness bound `until`
-/// of this block. From the moment `until` on, no Data of the block is fresh.
+/// A block of the list of rows: the rows at positions from `start` up to, but not including, `end`.
+/// From the moment `until` on, no Data of the block is fresh.
 #[derive(Clone, Copy)]
 pub struct Block {
     pub start: usize,
@@ -195,7 +195,7 @@ fn halve(entries: &Slab<Row>, order: &Places, blocks: &mut Vec<Block>, index: us
     }
 }
 
-/// Computes the freshness bound of the block with index `index` again, from the rows of the block.
+/// Computes `until` of the block with index `index` again, from the rows of the block.
 fn look_again(entries: &Slab<Row>, order: &Places, blocks: &mut Vec<Block>, index: usize)
     requires { IsRows (get entries.now) order.now }
     ensures { Keeps (shown (get entries.now) order.now) blocks.old.items blocks.new.items }

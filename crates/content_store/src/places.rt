@@ -11,8 +11,8 @@ use std::marker::Model;
 /// split before a slab index is inserted into it.
 const MAX_BLOCK: usize = 1024;
 
-/// The slab indexes at consecutive positions of the list, and the list position `start` of the
-/// first of these slab indexes.
+/// A block of the list of slab indexes: the slab indexes at consecutive positions of the list, from
+/// position `start` on.
 #[derive(Drop)]
 pub struct Block {
     pub start: usize,

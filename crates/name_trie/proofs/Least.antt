@@ -19,7 +19,7 @@ module _ {K X : Type 0} (R : K → K → Ordering) (change : X → Option X) whe
   unfolding revise
   entries-revise m = entries-from_sorted R (revised change (entries m)) (sorted_revised R change (entries m) (entries_sorted m))
 
-  -- once `change` has been applied to all values, a lookup finds what `change` makes of the old
+  -- after `change` has been applied to all values, a lookup finds what `change` makes of the old
   -- value, or nothing if there was no old value or if `change` removes this value
   pub get-each : IsAntisymmetric R → (m : FinMap R X) (k : K) → option_and_then (λ (n : FinMap R X). get n k) (each change m) ≡ option_and_then change (get m k)
   get-each anti m k =

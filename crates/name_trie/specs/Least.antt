@@ -1,4 +1,4 @@
--- Maps that are removed once they have no entry, and the least deadline of the values in a list.
+-- Maps that are removed when they have no entry, and the least deadline of the values in a list.
 use Rattle.std.specs.Prelude.{ℕ, List, [], ◌∷◌, Option, None, Some, min, nat_eq, if◌then◌else◌}
 use Rattle.std.specs.declared.cmp.Ordering.{Ordering}
 use Rattle.std.specs.FinMap.{FinMap, len}

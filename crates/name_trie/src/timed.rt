@@ -79,7 +79,7 @@ fn start(timers: &mut Timers, key: usize, new: Option<u64>)
     }
 }
 
-/// Replaces the timer of node `key`, whose deadline is `old`, by a timer with the deadline `new`.
+/// For node `key`, replaces the timer with the deadline `old` by a timer with the deadline `new`.
 /// `None` means that there is no timer. If `old` is `None`, `new` must be `None` too.
 pub fn retime(timers: &mut Timers, key: usize, old: Option<u64>, new: Option<u64>)
     requires had { IsSome new → IsSome old }

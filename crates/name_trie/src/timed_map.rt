@@ -27,7 +27,7 @@ pub struct TimedMap<V: Timed> {
     alloc: Global,
     nodes: Slab<Node<V>>,
     root: Option<usize>,
-    // The reserved name and the node of this name. The name for which a call was prepared last
+    // The reserved name and the node of this name. The name for which a call was last prepared
     // stays reserved until the next `prepare`, or until a `put_with` of another name. The reserved
     // node is not removed. `get`, `change` and `put_with` of the reserved name find this node
     // without a walk.

@@ -259,8 +259,8 @@ module _ (t : Routes) (within : IsWithinFib t) (name : List Field) (e : Entry) w
 pub earlier_none : (t : Routes) (early late : ℕ) → early ≤ late → NoneEndsBefore late t → NoneEndsBefore early t
 earlier_none t early late le later q e is key r there deadline ends = (let after = later q e is key r there deadline ends in omega (arith, le, after))
 
--- if the table has room for the face, then either the face has a next hop at this name, or fewer
--- than 64 faces have a next hop at this name
+-- if the table has room for the face, then either the name has a next hop on the face, or the name
+-- has next hops on fewer than 64 faces
 pub hop_room : (t : Routes) (name : List Field) (face : ℕ) → HasRoomFor t face → IsSome (get (entry_at t name).hops face) ⊎ (len (entry_at t name).hops < 64)
 hop_room t name face room = room_in (entry_at t name).hops face (at_most (λ f has. elim has as (λ _. LeadsTo t f ⊎ (f ≡ face)) [ (inl some) ↦ inl (name, inl some) | (inr is) ↦ inr is ]) room)
 

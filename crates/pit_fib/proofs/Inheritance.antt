@@ -353,7 +353,7 @@ module _ (t : Routes) (few : AtMost64 (LeadsTo t)) (at : Option ℕ) (name : Lis
   abbrev start : Inheriting
   start = record { at = at; inherited = empty; costs = empty }
 
-  -- the state of the walk once the walk has passed the prefixes with fewer than n components
+  -- the state of the walk after the walk has passed the prefixes with fewer than n components
   known : ℕ → Inheriting
   known zero = start
   known (suc n) = taken past_entry (known n) (get t (take n name))
@@ -380,7 +380,7 @@ module _ (t : Routes) (few : AtMost64 (LeadsTo t)) (at : Option ℕ) (name : Lis
   entry_faces : (q : List Field) (e : Entry) → get t q ≡ Some e → (f : ℕ) → EntryLeads e f → LeadsTo t f
   entry_faces q e is f l = (q, subst (λ x. EntryLeads x f) (sym (ap (λ o. unwrap_or o no_entry) is)) l)
 
-  -- once the walk has passed the prefixes with fewer than n components, the field `inherited` of
+  -- after the walk has passed the prefixes with fewer than n components, the field `inherited` of
   -- the walk's state has the costs that the name inherits from these prefixes
   inherited_at : (n : ℕ) → ((known n).inherited ≡ handed_down (live_table at t) name n) × Among (LeadsTo t) few (known n).inherited × ((known n).at ≡ at)
   unfolding known
@@ -409,7 +409,7 @@ module _ (t : Routes) (few : AtMost64 (LeadsTo t)) (at : Option ℕ) (name : Lis
       none_left None = refl
       none_left (Some now) = refl
 
-  -- if the prefix of n components has an entry, then, once the walk has passed this prefix, the
+  -- if the prefix of n components has an entry, then, after the walk has passed this prefix, the
   -- field `costs` of the walk's state has the costs of the prefix's effective next hops
   costs_here : (n : ℕ) (e : Entry) → get t (take n name) ≡ Some e → (known (suc n)).costs ≡ effective_of (live at e) (handed_down (live_table at t) name n)
   unfolding known

@@ -101,9 +101,9 @@ impl Becomes<Entry> for WithHop {
     }
 }
 
-/// A change that registers a route. The route replaces a route with the same face and origin. The
-/// name's routes are then stored in the vector `room`. The entry is unchanged if `room` lacks
-/// capacity for the old routes and one more.
+/// A change that registers a route. If the vector `room` lacks capacity for the name's old routes
+/// and one more route, the entry is unchanged. Otherwise, the route replaces the older route with
+/// the same face and origin, if there is one, and the name's routes are then stored in `room`.
 #[derive(Drop)]
 pub struct WithRoute {
     pub alloc: Global,

@@ -97,8 +97,8 @@ pub fn records_are_the_past()
 
 /// Law: the result of a Nack is `NoPending` exactly if the face from which the Nack came has no
 /// out-record with the Nack's Nonce. If this face has such an out-record, the result is `All`
-/// exactly if each out-record has a reason after the Nack, and the number in `All` is the least of
-/// these reasons.
+/// exactly if, after the Nack's reason is stored, each out-record has a reason. The number in `All`
+/// is the least of these reasons.
 pub fn nacks_tell_the_least_reason()
     ensures pending { (r : Records) (face : ℕ) (nonce : List ℕ) (reason : ℕ)
         → (nacked_answer r face nonce reason ≡ answers.NoPending)

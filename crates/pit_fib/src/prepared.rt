@@ -19,8 +19,8 @@ pub struct Ready {
     records: RecordRoom,
 }
 
-/// The prepared calls of a key: one `arrive` with its memory and the `sent` calls after it, or only
-/// `sent` calls.
+/// The prepared calls of a key: either one `arrive` (with its memory) and the `sent` calls after
+/// this `arrive`, or only `sent` calls.
 #[derive(Drop)]
 pub struct Prepared {
     key: KeyBuf,

@@ -14,7 +14,8 @@ use pit_fib::{Faces, Hop, Hops, Used};
 /// than 10 milliseconds ago or in the future, sends to no hop. In all other cases, sends to one
 /// eligible hop. If some eligible hop was never used, this is the least hop, by cost and then by
 /// face, of the eligible hops that were never used. If all eligible hops were used, this is the
-/// eligible hop that was used longest ago.
+/// eligible hop that was used longest ago. If several eligible hops were used longest ago, at the
+/// same moment, this is the least of these hops, by cost and then by face.
 #[derive(Clone, Copy, Debug)]
 pub struct BestRoute;
 
