@@ -21,9 +21,10 @@ use pit_fib::StrategyId;
 use std::alloc::Global;
 use std::mem;
 
-/// An upper bound of the number of octets in the body of a reply, not counting the octets of the
-/// command's name. The counted octets are the headers and the fields after the name. A reply to
-/// `rib/register` can have the most counted octets.
+/// An upper bound of the size of a reply's body, in octets. A body that is not empty is a
+/// ControlParameters element. Its size counts its header, the header of its Name, and all fields
+/// after the Name, but not the octets of the command's name. The replies to `rib/register` can have
+/// the greatest size.
 pub const BODY_EXTRA: usize = 70;
 
 /// An upper bound of the number of octets in a whole reply, not counting the octets of the

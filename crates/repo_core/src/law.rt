@@ -27,8 +27,9 @@ pub fn full_names_answer_as_data()
         ≡ answers name digest asked can_be_prefix }
 {}
 
-/// Law: a Data that is not wanted remains unwanted while wants only expire or are deleted, so an
-/// offer that cannot run out of memory (`IsOfferPrepared`) still cannot run out of memory.
+/// Law: a Data that is not wanted remains unwanted when wants expire or are deleted. So an offer
+/// that cannot run out of memory (`IsOfferPrepared`) still cannot run out of memory after wants
+/// expire or are deleted.
 pub fn removals_keep_preparations()
     ensures expiry { (now : ℕ) (name : List Field) (digest : List ℕ) (wants : Wants)
         → is_wanted name digest (wants_after now wants) ≡ true

@@ -127,7 +127,7 @@ impl Object {
         }
     }
 
-    /// Returns whether the full name begins with `name` and satisfies one condition more:
+    /// Returns whether two conditions are true. First, the full name begins with `name`. Second,
     /// `can_be_prefix` is true, or the component of the full name after `name`, if there is one,
     /// has a type less than 2. Only objects for which `is_near` is true can answer an Interest with
     /// this name and this CanBePrefix flag.

@@ -48,7 +48,7 @@ impl RepoReply {
     }
 }
 
-/// Returns the text of a status, or `None` if no `RepoReply` has this status.
+/// Returns the text of a status, or `None` if `Repo::command` returns no reply with this status.
 pub fn repo_status_text(status: u16) -> Option<&'static str>
     ensures { option_map (λ text. text.now) result ≡ repo_text_of status }
 {
