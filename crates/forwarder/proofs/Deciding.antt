@@ -1,5 +1,5 @@
--- If the rules and keys alone do not allow a packet, or if the packet is a Data, then the decision
--- on the packet is the decision of the rules and keys alone.
+-- If the rules and keys do not allow a packet, or if the packet is a Data, then the decision on the
+-- packet is the decision of the rules and keys, whether or not the packet is fresh.
 use Rattle.std.proofs.Common.{◌≡◌, ℕ, refl, List, Result, Ok, Err, sym, subst, inl}
 use Rattle.std.specs.Prelude.{IfOk, MatchResult, OnErr}
 use Rattle.hmac_keys.specs.KeyFile.{NamedKey}

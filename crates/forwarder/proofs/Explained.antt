@@ -178,9 +178,9 @@ module _ (seen : Seen) (face now : ℕ) (octets whole : List ℕ) (i : PlainInte
 
 -- ---- the sends in the answers to a Data, to a Nack, and to any event
 
--- Let `T` be true of each element of `askers`, a pair of a face and a token. If `T` is true of such
--- a pair, let `P` be true of the send of `whole` to the face of the pair, with the token of the
--- pair. Then `P` is true of all sends in `sent_to askers whole`.
+-- Let `T` be true of each pair of a face and a token in `askers`. Whenever `T` is true of a pair
+-- whose face is a face of `askers`, let `P` be true of the send of `whole` to this face with the
+-- token of the pair. Then `P` is true of all sends in `sent_to askers whole`.
 all_sent : (P : Send → Type 0) (T : ℕ × Token → Type 0) (whole : List ℕ) (askers : Askers) → All T askers
     → ((a : ℕ × Token) → IsTrue (has_face a.0 (faces_of askers)) → T a → P (sent_back a.0 a.1 whole)) → All P (sent_to askers whole)
 all_sent P T whole [] all each = All-nil P

@@ -300,7 +300,8 @@ module _ (key : PlainKey) (face : ℕ) (nonce : List ℕ) (reason : ℕ) where
       elim (same_key key key) as (λ b. (cond b (record { in_records = r.in_records; out_records = with_reason face nonce reason r.out_records (get r.out_records face) }) r).in_records ≡ r.in_records) [ true ↦ refl | false ↦ refl ] in
       ap (λ b. (cond b (changed came key r) no_records).in_records) (ap (λ (m : InRecords). ltb 0 (fin.len m)) same ∙ alive) ∙ same
 
-  -- a Nack with a Nonce that was not sent to the face leaves the out-records unchanged
+  -- a Nack from a face leaves the out-records unchanged if the face has no out-record with the
+  -- Nack's Nonce
   not_kept : (asked : OutRecords) → was_sent (get asked face) nonce ≡ false → with_reason face nonce reason asked (get asked face) ≡ asked
   not_kept asked other = go (get asked face) refl other
     where

@@ -68,10 +68,10 @@ MayForget old new =
 
 -- The store `new` after a use of the store `old`. The use `Untouched` changes nothing. A Data that
 -- a lookup returns becomes the most recently used; a lookup that returns no Data changes nothing.
--- If some face waits for an inserted Data, there are two cases. Either the Data is cached, or no
--- Data is added, while some Data may be dropped or reordered (`MayForget`). If no face waits for an
--- inserted Data, nothing changes. An erase removes Data as `IsErased` specifies, and leaves the
--- capacity unchanged.
+-- If some face waits for an inserted Data, there are two cases. In the first case, the Data is
+-- cached. In the second case, no Data is added, but some Data may be dropped or reordered
+-- (`MayForget`). If no face waits for an inserted Data, nothing changes. An erase removes Data as
+-- `IsErased` specifies, and leaves the capacity unchanged.
 abbrev pub CacheAfter : ℕ → Pending → CacheUse → StoreState → StoreState → Type 0
 CacheAfter now waiting Untouched old new = new ≡ old
 CacheAfter now waiting (LooksUp key) old new =

@@ -1,5 +1,6 @@
 -- How commands are answered, and what they change (NFD Management, "Control Command"). An allowed
--- command is recorded and answered in the same step, whatever its status.
+-- command with a SignatureTime is answered and recorded in one step, whatever its status. A command
+-- without a SignatureTime is answered, but not recorded.
 use Rattle.std.specs.Prelude.{◌≡◌, ℕ, List, [], ◌∷◌, ◌++◌, length, Bool, Option, None, Some, unwrap_or, slice_get, codes, nat_lt, ◌||◌, Result, Ok, Err, if◌then◌else◌}
 use Rattle.std.specs.Option.{option_map}
 use Rattle.std.specs.FinMap as map

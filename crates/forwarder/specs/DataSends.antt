@@ -113,7 +113,7 @@ holds_data (Err fault) = false
 holds_data (Ok e) = if e.0 == LINK_PACKET then carries_data (elements_of e.1) else (e.0 == DATA)
 
 -- True if octets that go over a link are a Data or a link packet that carries a Data, and false
--- otherwise. A Data that is too long to be read also counts, such as a long reply of the node.
+-- otherwise. A Data that is too long to be read, such as a long reply of the node, also counts.
 abbrev pub is_data : List ℕ → Bool
 is_data octets = is_data_frame (frame_at octets) || holds_data (only_element octets)
 

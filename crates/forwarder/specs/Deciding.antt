@@ -12,7 +12,7 @@ use Rattle.replay_guard.specs.Guard.{IsFresh, signer_of}
 use Rattle.forwarder.specs.declared.freshness.Signed.{Signed}
 use Rattle.forwarder.specs.Policy.{Policy}
 
--- the key name in a KeyLocator, or None if there is no KeyLocator or it contains no name
+-- the key name in a KeyLocator, or None if the KeyLocator is missing or contains no name
 abbrev pub key_named : PlainLocator → Signer
 key_named Missing = None
 key_named (KeyName name) = Some name

@@ -1,4 +1,4 @@
--- How an Interest that neither the cache nor the repository answers is sent on (NFD Developer's
+-- How an Interest is sent on if neither the cache nor the repository answers it (NFD Developer's
 -- Guide, "Outgoing Interest Pipeline").
 use Rattle.std.specs.Prelude.{◌≡◌, ◌++◌, ℕ, List}
 use Rattle.ndn_packets.specs.Key.{key_of}

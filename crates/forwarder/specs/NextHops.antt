@@ -22,9 +22,9 @@ abbrev pub selection_of : StrategyId → Selection
 selection_of BestRoute = best_route
 selection_of Multicast = multicast
 
--- the strategy of a name: among the prefixes of the name that have a strategy, the longest decides;
--- BestRoute if no prefix of the name has a strategy, but in every node the prefix `/` has a
--- strategy
+-- The strategy of a name. Among the prefixes of the name, the longest that has a strategy decides.
+-- If no prefix has a strategy, the result is BestRoute. In every node, the prefix `/` has a
+-- strategy.
 abbrev pub strategy_for : Policy → List Field → StrategyId
 strategy_for p name = unwrap_or (longest p.choices name) BestRoute
 

@@ -18,8 +18,8 @@ pub record Policy : Type 0 where
   -- the greatest moment of the events that were handled, in milliseconds since 1970
   pub now : ℕ
   -- the version of the lists of routes and strategies: the number of allowed commands under
-  -- /localhost/nfd, plus the number of closed faces, plus the number of expired routes; at most the
-  -- greatest u64
+  -- /localhost/nfd, plus the number of times that an open face closed, plus the number of expired
+  -- routes; at most the greatest u64
   pub table_number : ℕ
   pub rules : List PlainRule
   pub keys : List NamedKey

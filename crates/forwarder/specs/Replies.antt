@@ -100,9 +100,9 @@ abbrev pub by_content_store : Seen → ℕ → Token → List ℕ → PlainInter
 by_content_store seen face token whole i (Some octets) = content_store_hit face token octets
 by_content_store seen face token whole i None = content_store_miss seen face token whole i
 
--- Incoming Interest: an Interest that loops gets a Nack; otherwise the content store or the
--- repository answers the Interest, or the Interest is answered according to the strategy's choice
--- (`by_strategy`)
+-- Incoming Interest: an Interest that loops gets a Nack; otherwise the cache or the repository
+-- answers the Interest; if neither has an answer, the Interest is answered according to the
+-- strategy's choice (`by_strategy`)
 abbrev pub RepliesForData : Seen → ℕ → Token → List ℕ → PlainInterest → Answer → Type 0
 RepliesForData seen face token whole i answer =
     IfTrueElse (loops (seen.records (key_of i)) face i.nonce)

@@ -106,7 +106,7 @@ named_request p i None =
     if is_some (verb_at p.repo i.name) then ForRepository else
     ForData)
 
--- the plain data of a request that the code reads off a name
+-- the plain data of a request that the code reads off the name and CanBePrefix of an Interest
 abbrev pub request_named : NamedRequest → Request
 request_named (named.ForList asked) = ForList asked
 request_named named.ForTables = ForTables

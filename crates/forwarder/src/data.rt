@@ -92,7 +92,7 @@ impl State {
     /// which the Data came. Removes all in-records and out-records of the keys that the Data
     /// answers. If at least one face had a pending Interest for the Data, offers the Data to the
     /// cache, which does not store the Data if memory runs out. Stores the Data in the repository
-    /// if the repository wants the Data. If `with_tokens` is false, no pending Interest has a
+    /// if the repository wants the Data. `with_tokens` must be true if some pending Interest has a
     /// token. Never fails: memory for 64 sends and their octets is already reserved, and the offer
     /// to the repository is prepared.
     fn deliver(

@@ -155,10 +155,9 @@ fn segment_data<'a>(
 
 impl State {
     /// Sends a segment of a list to the face that requests the segment. The segment shows the list
-    /// as it is once time has advanced to the moment of the Interest. Drops the Interest if the
-    /// requested segment does not exist, or if a version other than the current version is
-    /// requested. The segment is encoded before time advances, so nothing has changed if memory
-    /// runs out.
+    /// after time has advanced to the moment of the Interest. Drops the Interest if the requested
+    /// segment does not exist, or if a version other than the current version is requested. The
+    /// segment is encoded before time advances, so nothing has changed if memory runs out.
     pub fn send_list(
         &mut self,
         arrived: &Arrived<'_, Interest<'_>>,

@@ -121,9 +121,10 @@ pub(crate) fn prepare_record(guard: &mut Guard, interest: &Interest<'_>) -> Resu
     }
 }
 
-/// Records the signer, the SignatureTime and the SignatureSeqNum of a command. The caller must have
-/// called `prepare_record` for the command, so that `record` needs no memory. Does nothing if the
-/// command has no signature or no SignatureTime.
+/// Records the signer, the SignatureTime and the SignatureSeqNum of a command. Does nothing if the
+/// command has no signature or no SignatureTime. For any other command, the caller must have called
+/// `prepare_record` with this command, and must not have called `Guard::prepare` or `Guard::record`
+/// since that call. So `record` needs no memory.
 pub(crate) fn record(guard: &mut Guard, interest: &Interest<'_>) -> Result<(), Memory>
     requires { IfSome (recorded_of (plain_interest interest.now))
         (λ r. IsPrepared guard.old r.signer) }

@@ -247,8 +247,8 @@ impl State {
         }
     }
 
-    /// Adds or replaces the in-record of the incoming face `face`, and forwards the Interest to
-    /// `faces`. Drops the Interest if its key is not in the PIT and the PIT is full.
+    /// Drops the Interest if its key is not in the PIT and the PIT is full. Otherwise adds or
+    /// replaces the in-record of the incoming face `face`, and forwards the Interest to `faces`.
     fn send_on(
         &mut self,
         face: u64,

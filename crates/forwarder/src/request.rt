@@ -35,7 +35,8 @@ pub(crate) struct ListAsked {
 pub(crate) enum NamedRequest {
     ForList(ListAsked),
     /// A management command. Every Interest whose name begins with `/localhost/nfd` and that does
-    /// not ask for a list is handled as one, even if no command has its name.
+    /// not ask for a list is handled as a management command, even if no command has this name. The
+    /// only exceptions are Interests that are dropped because of their HopLimit or scope.
     ForTables,
     /// A command to the repository.
     ForRepository,

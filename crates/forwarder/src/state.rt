@@ -34,9 +34,9 @@ pub struct State {
 
 impl State {
     /// Sets the time to the greater of `self.now` and `moment`, and removes the in-records, routes
-    /// and pending inserts that are due. Adds the number of removed routes to the version of the
-    /// lists, up to the greatest u64. What was prepared in the PIT, the tables, the guard and the
-    /// repository stays prepared.
+    /// and pending inserts that expire by this time. Adds the number of removed routes to the
+    /// version of the lists, up to the greatest u64. What was prepared in the PIT, the tables, the
+    /// guard and the repository stays prepared.
     pub fn pass_time(&mut self, moment: u64)
         ensures later { IsLater (state_of self.old) moment (state_of self.new) }
         ensures pit { self.new.pit.prepared ≡ self.old.pit.prepared }

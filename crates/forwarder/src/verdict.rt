@@ -11,8 +11,8 @@ pub enum Verdict {
     Allowed(RuleNo, u16),
     /// This rule allowed the Data, whether it was sent on or not.
     DataAllowed(RuleNo),
-    /// This rule denied the command or Data for this reason. If the reason is `Replay`, the rule
-    /// allowed the command, but the command was not fresh.
+    /// The command or Data was denied for this reason. This rule is the first rule that applies. If
+    /// the reason is `Replay`, this rule allows the command, but the command was not fresh.
     Denied(Kind, RuleNo, Reason),
     /// No rule applies to the command or Data, which is denied.
     NoRule(Kind),
