@@ -17,7 +17,7 @@ use Rattle.forwarder.specs.Deciding.{IsDecidedAs}
 use Rattle.forwarder.specs.Effects.{IsAfter, IsEffect, after_packet, after_decision, can_open, decided_packet, face_in, undecided_effect}
 use Rattle.journal.specs.Journal.{IsChosen, IsJournalled, is_journalled_as, is_journalled_packet, is_journalled_undecided}
 
--- ---- if one decision allows a packet, every decision on it does
+-- ---- if one decision allows a packet, every decision on the packet allows it
 
 abbrev is_allowed : Decision → Bool
 is_allowed (Allowed rule) = true

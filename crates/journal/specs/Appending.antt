@@ -33,8 +33,8 @@ abbrev pub added_text : Bool → ℕ → Entry → List ℕ
 added_text true now e = entry_text now e
 added_text false now e = []
 
--- the line of the entry at the time `time` is a line of a script, and it spells each event that the
--- entry stands for at that time
+-- for each event that the entry stands for at the time `time`, the line of the entry at this time
+-- is a line of a script and spells the event
 abbrev pub IsLineAt : ℕ → Entry → Type 0
 IsLineAt time e =
     (event : PlainEvent) → IsEventOf time e event → IsTextOf (event ∷ []) (entry_text time e)

@@ -1,6 +1,6 @@
 -- The journal of a node: those events of a run that may change more than the time. The first policy
--- of the run and the events of the journal determine the policy at each time from the last time of
--- the run on.
+-- of the run and the events of the journal determine the policy at each time from the latest time
+-- of the run on.
 use Rattle.std.specs.Prelude.{◌≡◌, ◌⊎◌, ◌≤◌, ℕ, Bool, true, false, List, [], ◌∷◌, ◌++◌, Option, None, Some, max}
 use Rattle.sha2.specs.Sha256.{sha256}
 use Rattle.ndn_packets.specs.Packet.{PlainFrame, AnInterest, AData, ANack, Idle}

@@ -63,7 +63,7 @@ StopsReplay old new unread left fault.Memory =
 
 -- What a replay restores if a crash left only the octets `left` of the text of a run's journal.
 -- The whole lines of `left` are the text of the journal of a prefix of the run, as `Survives`
--- states. From the last time of this prefix on, the node after the replay has the policy that the
+-- states. From the latest time of this prefix on, the node after the replay has the policy that the
 -- prefix leads to. The node agrees (`Stands`) with a valid run, called `again`, and the text of the
 -- journal of `again` is exactly the whole lines of `left`. So lines that are appended after the
 -- whole lines continue the journal of `again`.

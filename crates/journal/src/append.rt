@@ -9,7 +9,7 @@ use forwarder::Verdict;
 use std::alloc::Global;
 use thiserror::Error;
 
-/// What is needed to journal an event.
+/// What must be known of an event to journal it, apart from its time and its verdict.
 #[derive(Clone, Copy)]
 pub struct Coming<'a> {
     /// The content of the event's line, except the time.
@@ -29,9 +29,10 @@ pub enum AppendFault {
     File,
 }
 
-/// If the event in `coming`, whose verdict is `verdict`, is journalled, appends the event's line,
-/// and succeeds only when the line survives a crash. The time in the line is `time`, the latest
-/// time of any event so far, in milliseconds since 1970.
+/// If the event in `coming` must be journalled, appends the event's line, and succeeds only when
+/// the line survives a crash. `verdict` is the verdict on the event. The time in the line is
+/// `time`: the greatest of the times of this event and all events answered before, in milliseconds
+/// since 1970.
 pub fn append_event<F: JournalFile>(
     alloc: Global,
     file: &mut F,

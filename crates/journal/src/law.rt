@@ -71,7 +71,7 @@ pub fn journals_are_one()
 {}
 
 /// Law: let the events of the journal of a run `past` be replayed from the first policy of `past`.
-/// From the last time of `past` on, the policy after the replay is the same as the policy after
+/// From the latest time of `past` on, the policy after the replay is the same as the policy after
 /// `past`. The replay is a run with the same journal, so this journal can be continued after the
 /// replay. The keys of each key book in `past` must have different names.
 pub fn journals_keep_policy()
@@ -86,7 +86,7 @@ pub fn journals_keep_policy()
         → KeysAreApart first past → IsPolicyOf first past p → IsJournalOf first past journal
         → events_of again ≡ journal → (q : Policy) × IsPolicyOf first again q }
     // The next event has the same effect after the replay as after the run, if the event's time is
-    // not before the run's last time.
+    // not before the run's latest time.
     ensures next { (p q r : Policy) (event : PlainEvent) → AreOneFrom p.now q p
         → p.now ≤ moment event → IsAfter p event r → IsAfter q event r }
 {}
@@ -103,7 +103,7 @@ pub fn rules_at_the_start_are_the_first()
 {}
 
 /// Law: if a crash leaves a prefix of the events of a run's journal, the events that are left are
-/// the journal of a prefix `part` of the run. From the last time of `part` on, a replay of the
+/// the journal of a prefix `part` of the run. From the latest time of `part` on, a replay of the
 /// events that are left leads to the policy after `part`. If the whole journal of a prefix of the
 /// run is left, that prefix of the run is also a prefix of `part`. The keys of each key book in the
 /// run must have different names.
@@ -113,9 +113,9 @@ pub fn crashes_leave_a_beginning()
         → journal ≡ left ++ lost → KeepsBeginning first past left }
 {}
 
-/// Law: let a text be the lines of some events and then octets without an LF, as a crash may leave
-/// the text of a journal. As lines of a script, the whole lines of the text spell exactly these
-/// events, and no other list of events.
+/// Law: let a text consist of the lines of some events and then octets without an LF. A crash may
+/// leave such a text in a journal. As lines of a script, the whole lines of the text spell exactly
+/// these events, and no other list of events.
 pub fn journal_texts_have_one_reading()
     ensures script { (text : List ℕ) (events : List PlainEvent) → IsCutTextOf events text
         → IsScriptSoFar text events }

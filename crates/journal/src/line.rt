@@ -43,7 +43,8 @@ pub enum LineFault {
 /// Returns the journal's line for an entry at the time `now`, including the LF.
 pub fn line_of(alloc: Global, now: u64, entry: &Entry<'_>) -> Result<String, LineFault>
     ensures text { IfOk result (λ line. string_bytes line ≡ entry_text now entry.now) }
-    // The line is a line of a script, and it spells the event of the entry at the time `now`.
+    // If the entry stands for an event at the time `now`, the line is a line of a script and spells
+    // this event.
     ensures line { OnOk result
         ((event : PlainEvent) → IsEventOf now entry.now event
         → IsTextOf (event ∷ []) (entry_text now entry.now)) }

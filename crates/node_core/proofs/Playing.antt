@@ -289,8 +289,8 @@ Fed-then stream from mid to line rest front after text held holds new fed is pla
           ∙ ap (λ (t : List ℕ). t ++ ([] ++ after)) (sym (joined-append fed.lines ((line ++ front) ∷ [])));
     }
 
--- if appending octets to an unfinished line has the fault `f`, since the line is too long or
--- memory runs out, then handling `stream` stops with `f`
+-- if appending octets to an unfinished line has the fault `f` (the line is too long, or memory runs
+-- out), then handling `stream` stops with `f`
 pub FeedStops-last : (f : RunFault) (stream : List ℕ) (from mid : Place) (line rest : List ℕ) (held holds : Option (List ℕ)) → Fed stream from mid line rest held holds
     → Lacks 10 line → Lacks 10 rest → AddStops f (line ++ rest) mid → FeedStops f stream from held holds
 FeedStops-last (fault.BadLine n) stream from mid line rest held holds fed la lb h =
@@ -322,8 +322,8 @@ gathered_front : (a text : List ℕ) (held holds : Option (List ℕ)) → Append
 gathered_front a text held holds h k =
     (k.0, k.1 ++ h.1, h.2 ∙ ap (λ (t : List ℕ). t ++ h.1) (sym h.3 ∙ k.2) ∙ append_assoc k.0 k.1 h.1, k.3)
 
--- if `xs` followed by one more octet begins with `ys` and is longer than `ys`, then `xs` begins
--- with `ys`
+-- let a text be `xs` with one octet appended; if `ys` is a prefix of the text and is shorter than
+-- the text, then `ys` is a prefix of `xs`
 init_after : (xs ys zs : List ℕ) (a z : ℕ) → xs ++ (a ∷ []) ≡ ys ++ (z ∷ zs) → (rest : List ℕ) × (xs ≡ ys ++ rest)
 init_after xs [] zs a z h = (xs, refl)
 init_after [] (y ∷ ys) zs a z h = absurd (let e = ap length h in omega (arith, e, length-append ys (z ∷ zs)))

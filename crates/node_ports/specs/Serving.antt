@@ -74,8 +74,8 @@ refused_count (Answered answer ∷ outcomes) = refused_count outcomes
 refused_count (NoMemory ∷ outcomes) = refused_count outcomes + 1
 
 -- if the old node agrees (`Stands`) with a valid run from a policy whose time is 0, and `before` is
--- the text of this run's journal, then `after` is the text of the journal of this run extended by
--- the answered events
+-- the text of this run's journal, then this run, extended by the answered events, has a journal
+-- whose text is `after`
 abbrev pub KeepsJournal : NodeState → Option (List ℕ) → List PlainEvent → List Outcome
     → Option (List ℕ) → Type 0
 KeepsJournal old before events outcomes after =

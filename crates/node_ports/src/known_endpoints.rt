@@ -30,9 +30,9 @@ pub struct KnownEndpoints {
     pub clients: Clients,
     /// The number of the next face to open.
     pub next: u64,
-    /// The face number of all endpoints that are not stored because 64 endpoints are known. `None`
-    /// if no such endpoint was met since a face was last opened for a new client, or since the
-    /// start if no face was opened for a client.
+    /// The face number of all endpoints that are not stored because 64 endpoints are known. At the
+    /// start, and whenever a face is opened for a new client, `refused` becomes `None`, and remains
+    /// `None` until such an endpoint is met.
     pub refused: Option<u64>,
 }
 

@@ -85,16 +85,16 @@ impl MemoryPorts {
         }
     }
 
-    /// Makes the `k`th call of `next` fail, counted from 1 for the first call after this one. If
-    /// `k` is 0, no call of `next` is told to fail.
+    /// Makes the `k`th call of `next` after this call of `fail_next` fail. If `k` is 0, no call of
+    /// `next` is told to fail.
     pub fn fail_next(&mut self, k: u64)
         ensures { self.new ≡ record self.old { next_told = k } }
     {
         self.next_told = k;
     }
 
-    /// Makes the `k`th call of `send` fail, counted from 1 for the first call after this one. If
-    /// `k` is 0, no call of `send` is told to fail.
+    /// Makes the `k`th call of `send` after this call of `fail_send` fail. If `k` is 0, no call of
+    /// `send` is told to fail.
     pub fn fail_send(&mut self, k: u64)
         ensures { self.new ≡ record self.old { send_told = k } }
     {
@@ -188,7 +188,8 @@ impl Ports for MemoryPorts {
     }
 }
 
-// Returns whether this call is the one that is told to fail, and counts down to that call.
+// Returns whether `told` is 1, which means that the present call of `next` or `send` is told to
+// fail. Decreases `told` by 1, unless `told` is 0.
 fn is_told(told: &mut u64) -> bool
     ensures now { IsTrue result ↔ (told.old ≡ 1) }
     ensures nearer { told.new ≡ told.old - 1 }

@@ -97,9 +97,9 @@ pub trait Ports {
         ensures { result ≡ false → journal self.now ≡ None };
 
     /// Is called for each answered event with its verdict, before the event's packets are sent. If
-    /// the event is journalled, a port with a journal appends the event's line, and succeeds only
-    /// when the line survives a crash. The time in the line is `time`, the latest time of all
-    /// events up to this one.
+    /// the event must be journalled, a port with a journal appends the event's line, and succeeds
+    /// only when the line survives a crash. The time in the line is `time`: the greatest of the
+    /// times of this event and all events answered before.
     fn commit(&mut self, event: &Coming<'_>, time: u64, verdict: &Verdict) -> Result<(), PortFault>
         ensures done { OnOk result (Journals (journal self.old) (journal self.new) time
             event.now (verdict_of verdict.now)) }

@@ -1,5 +1,5 @@
--- How a run of a script ends. The definitions compare the unread octets of the reader and the
--- octets of the writer before and after the run, if these octets are known.
+-- How a run of a script ends. The definitions relate the unread octets of the reader before the run
+-- to those after the run, if these octets are known. They do the same for the octets of the writer.
 use Rattle.std.specs.Prelude.{◌≡◌, ℕ, Option, IfSome, List, ◌++◌}
 use Rattle.std.specs.Io.KnownBytes.{Appends, Consumes, Keeps, IsAtEnd}
 use Rattle.forwarder.specs.Event.{PlainEvent}
