@@ -142,7 +142,7 @@ IsTagAnswer job book text =
 abbrev pub IsShown : List ℕ → List ℕ → Type 0
 IsShown octets text = (frame : PlainFrame) × IsFrame octets frame × (text ≡ frame_lines frame)
 
--- the explanation of the frame and its PIT token; the signature is checked if there are keys
+-- the explanation of the frame and its PIT token; the signature is checked if `keys` is not None
 abbrev pub IsExplained : Option (List NamedKey) → List ℕ → List ℕ → Type 0
 IsExplained keys octets text =
     (framed : PlainFramed) × (check : Option TagCheck) × IsFramed octets framed

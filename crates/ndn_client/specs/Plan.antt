@@ -52,8 +52,8 @@ abbrev pub IsExplained : Bool → ExplainJob → List NamedKey → List ℕ → 
 IsExplained true asked book input text = IsExplainedInput (keys_given asked book) input text
 IsExplained false asked book input text = IsAnswer (job.Explain asked) book text
 
--- the text that is printed: if the job explains standard input, the explanation of the lines, and
--- otherwise the answer to the job
+-- the text that is printed: if the job explains standard input, the explanation of the lines in
+-- `input`, and otherwise the answer to the job
 abbrev pub IsPrinted : Job → List NamedKey → List ℕ → List ℕ → Type 0
 IsPrinted (job.Explain asked) book input text =
     IsExplained (is_none asked.packet) asked book input text

@@ -203,7 +203,7 @@ pub fn keys_given<'a>(job: &ExplainJob, book: &'a KeyBook) -> Option<&'a KeyBook
     }
 }
 
-/// Returns the explanation of a packet. The packet's signature is checked if there are keys.
+/// Returns the explanation of a packet. The packet's signature is checked if `keys` is not `None`.
 fn explained_text(
     alloc: Global,
     octets: &[u8],

@@ -31,8 +31,8 @@ turn_text number rules Refused sends =
 turn_text number rules Unwritten sends = []
 turn_text number rules End sends = []
 
--- events arrived, `events` in number, and each had an outcome; `text` is the text of these
--- outcomes, in the format of the answers to a script
+-- `events` is the number of events that arrived, and each event had an outcome; `text` is the text
+-- of these outcomes, in the format of the answers to a script
 pub record Tells (old new : NodeState) (before after : Shown) (events : ℕ) (text : List ℕ)
     : Type 0 where
   pub refused : ℕ

@@ -190,8 +190,9 @@ impl<S: LogSink> EventLog<S> {
 
     /// Appends a line with the number of closed faces, and a line with the number of dropped
     /// datagrams from endpoints that are not peers. Both lines count only what is not yet reported,
-    /// and a line with the number 0 is left out. `strangers` is the total number of these
-    /// datagrams, including those that are already reported.
+    /// and a line with the number 0 is left out. `strangers` is the total number of dropped
+    /// datagrams from endpoints that are not peers, including the datagrams that are already
+    /// reported.
     pub fn put_counts_now(&mut self, moment: u64, strangers: u64)
         ensures others { self.new ≡ record self.old {
           text = self.new.text;

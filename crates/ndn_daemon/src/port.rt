@@ -79,8 +79,9 @@ fn milliseconds<R: Clock>(rt: &R) -> Option<u64> {
 /// output unless the node is quiet. The log, if there is one, is written to standard error. If
 /// `source` has new rules and keys when it is checked, they replace the node's rules and keys.
 /// Invalid `parts` are reported before the port is bound. With a journal, the node starts with the
-/// state that the journal restores, and with the source's rules and keys. The source's rules and
-/// keys are journalled if they differ from the last rules and keys in the journal.
+/// state that the journal restores. If the source's rules and keys differ from the last rules and
+/// keys in the journal, the event of the first turn replaces the node's rules and keys by those of
+/// the source, and this event is journalled.
 pub fn run_on_port<
     R: AllocGlobal + Eprint + Files<File = File> + Net + Print,
     M: Moments,
@@ -155,7 +156,7 @@ fn take_as_begun<
 
 /// Replays a journal on a node. Then lets the node take the requested turns, and append to the
 /// journal. If the rules and keys of `source` differ from the last rules and keys in the journal,
-/// the rules and keys of `source` are the first event that is appended.
+/// the event of the first turn replaces the node's rules and keys by those of `source`.
 pub fn take_restored<
     R: AllocGlobal + Eprint + Print,
     J: StoredJournal,
@@ -218,9 +219,9 @@ fn report_cut<R: Eprint>(rt: &R, cut: u64) {
     }
 }
 
-/// Returns the open faces that do not belong to peers. A face that does not belong to a peer was
-/// opened for an endpoint that the node no longer knows, or for a peer that had another scope
-/// before the restart.
+/// Returns the open faces that do not have both the number and the scope of a peer's face. Either
+/// no peer has the number of such a face, or the peer with this number has another scope than the
+/// face.
 fn unknown_faces(alloc: Global, node: &Node, options: &UdpOptions) -> Result<Vec<u64>, AllocError> {
     let mut unknown = Vec::new(alloc);
     for i in 0..MAX_FACES {
@@ -455,8 +456,8 @@ fn next_turn<P: Ports, W: Write>(
     }
 }
 
-/// Lets a node take its next turn, if something arrives soon and the buffered text `text` is not
-/// empty. Otherwise returns `None`.
+/// If the buffered text `text` is not empty and something arrives soon, lets a node take its next
+/// turn, and returns this turn. Otherwise returns `None`.
 fn turn_soon<P: Ports>(
     node: &mut Node,
     ports: &mut P,

@@ -1,4 +1,5 @@
-//! A log for operators, with one line for each event of a node.
+//! The lines of a log for operators. There are lines about the events of a node, failed sends,
+//! closed faces, and dropped datagrams from endpoints that are not peers.
 #![tactic(auto)]
 
 mod entry;

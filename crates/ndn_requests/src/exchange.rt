@@ -195,7 +195,7 @@ impl Exchange {
     }
 
     /// Handles a segment. If `segment` is less than `last`, prepares the request for the next
-    /// segment. Otherwise returns the table of all segments.
+    /// segment. Otherwise returns the table of the entries in all segments.
     fn take_place(
         &mut self,
         alloc: Global,
