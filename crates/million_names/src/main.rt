@@ -1,8 +1,9 @@
 //! Puts a million names into a map. Removes each name after 64 further names were put in, and
-//! finally removes the last 64 names. Prints the greatest number of names that the map had after a
-//! removal, and how many names are in the map at the end. By the map's invariant, each node of the
-//! map has a value or a child, except the node of a name for which `prepare` was called. So a map
-//! with no names has no node if `prepare` was never called.
+//! finally removes the last 64 names. Counts the names in the map after each insertion and the
+//! removal that follows the insertion, if there is one. Prints the greatest of these counts, and
+//! how many names are in the map at the end. By the map's invariant, each node of the map has a
+//! value or a child, except the node of a name for which `prepare` was called. So a map with no
+//! names has no node if `prepare` was never called.
 #![tactic(auto)]
 
 use name_trie::NameMap;
@@ -15,7 +16,7 @@ use std::io;
 /// The number of names.
 const NAMES: u64 = 1_000_000;
 
-/// The number of names that stay in the map: the names that were put in last.
+/// The number of names that stay in the map. They are the names that were put in last.
 const STANDING: u64 = 64;
 
 /// Returns the name for a number. The first component is `number / 4096`, and the second component
@@ -42,8 +43,8 @@ fn put_and_remove(alloc: Global, names: &mut NameMap<u64>, number: u64) -> Resul
     Ok(names.len())
 }
 
-/// Puts all names into the map and removes them. Returns the greatest number of names that the map
-/// had after a removal, and the number that it has at the end.
+/// Puts all names into the map and removes them. Returns the greatest number that a call of
+/// `put_and_remove` returned, and the number of names that are in the map at the end.
 fn rounds(alloc: Global) -> Result<(usize, usize), Memory> {
     let mut names = NameMap::new(alloc);
     let mut most = 0;

@@ -18,8 +18,8 @@ pub fn octets(alloc: Global, text: &str) -> Option<Vec<u8>> {
 }
 
 /// Returns the line number, counted from 1, of the first row for which `is_right` returns false.
-/// Returns 0 if `is_right` returns true for all rows. A line that is empty or begins with `#` is
-/// not a row. For a text without rows, returns 1.
+/// Returns 0 if there are rows and `is_right` returns true for all of them. A line that is empty or
+/// begins with `#` is not a row. For a text without rows, returns 1.
 pub fn first_wrong<F: Fn(Global, &str) -> bool>(alloc: Global, rows: &str, is_right: F) -> usize
     requires { F.IsAlwaysCallable is_right }
 {
@@ -36,9 +36,9 @@ pub fn first_wrong<F: Fn(Global, &str) -> bool>(alloc: Global, rows: &str, is_ri
     without_rows
 }
 
-/// Returns the first wrong row and the text that `show` gives for its input, or `None` if no row is
-/// wrong. A row consists of an input, ` -> `, and the text that `show` must give for the input. For
-/// a text without rows, returns `no rows` as the wrong row.
+/// Returns the first wrong row and the text that `show` gives for the row's input. Returns `None`
+/// if there are rows and no row is wrong. A row consists of an input, ` -> `, and the text that
+/// `show` must give for the input. For a text without rows, returns `no rows` as the wrong row.
 pub fn first_misshown<'a>(
     alloc: Global,
     rows: &'a str,
