@@ -1,4 +1,4 @@
--- The function `decode` reads two hexadecimal digits of either case for each octet.
+-- The function `hex::decode` reads two hexadecimal digits of either case for each octet.
 use Rattle.std.proofs.Common.{◌≡◌, ℕ, suc, ◌+◌, ◌*◌, ◌%◌, ◌<◌, ◌≤◌, ◌==◌, Bool, true, false, cond, leb, ◌&&◌, List, [], ◌∷◌, length, Result, Ok, Err, refl, sym, ap, subst, ◌∙◌, arith, inl, inr}
 use Rattle.std.specs.Prelude.{Option, Some, None}
 use Rattle.std.proofs.lemmas.Bool.{cases_lt, false_from_ne_true, and_parts, leb-true}

@@ -72,11 +72,11 @@ keys_from n keys (line ∷ lines) =
 abbrev pub keys_in : List ℕ → Result (List NamedKey) KeyFault
 keys_in text = keys_from 1 [] (lines_of text)
 
--- `fault` is the fault that `read` returns, or `Memory`
+-- the result `read` is the error `fault`, or `fault` is `Memory`
 abbrev pub IsFaultOf : Result (List NamedKey) KeyFault → KeyFault → Type 0
 IsFaultOf read fault = (read ≡ Err fault) ⊎ (fault ≡ Memory)
 
--- either `fault` is the fault that `read` returns, or `fault` is `Memory` and `read` succeeds
+-- either the result `read` is the error `fault`, or `fault` is `Memory` and `read` is not an error
 abbrev pub IsFaultBeforeMemory : Result (List NamedKey) KeyFault → KeyFault → Type 0
 IsFaultBeforeMemory read fault =
     (read ≡ Err fault) ⊎ ((fault ≡ Memory) × ((keys : List NamedKey) × (read ≡ Ok keys)))

@@ -9,8 +9,8 @@ use thiserror::Error;
 /// enum is reported. `Memory` is returned only if the file has no fault.
 #[derive(Clone, Copy, Debug, PartialEq, Eq, Error)]
 pub enum KeyFault {
-    /// The line is not the URI of a nonempty name, a space, and 1 to 256 octets in hexadecimal. The
-    /// line number 0 means that the file is not UTF-8.
+    /// The line does not consist of the URI of a nonempty name, a space, and 1 to 256 octets in
+    /// hexadecimal. The line number 0 means that the file is not UTF-8.
     #[error("line {0} does not have a name and the octets of a key, such as /ops/KEY/1 6b6579")]
     BadLine(u64),
     /// The key of the line has the same name as the key of an earlier line.

@@ -90,7 +90,7 @@ impl KeyBook {
     /// `NameBuf::from_uri`. A CR is an ordinary character of a line, and does not end the line.
     /// Empty lines, and lines that begin with `;`, are skipped, but line numbers count them.
     ///
-    /// If the file is refused, returns the fault of the first faulty line, and no keys: see
+    /// If the file has a fault, returns the fault of the first faulty line, and no keys: see
     /// `KeyFault`. Two names are the same if their components are the same, even if the spellings
     /// of their URIs differ. `Memory` is returned only if the text has no fault.
     pub fn read(alloc: Global, text: &str) -> Result<KeyBook, KeyFault>
@@ -166,8 +166,8 @@ impl KeyBook {
         Ok(())
     }
 
-    /// Returns the octets of the key with exactly this name, if the book has such a key. Nothing is
-    /// allocated.
+    /// Returns the octets of the key with exactly this name, or `None` if the book has no such key.
+    /// Nothing is allocated.
     pub fn find(&self, name: Name<'_>) -> Option<&[u8]>
         ensures { MatchOption result
             ((octets : List ℕ) → IsAmong (components name.entry, octets) self.now → ⊥)
@@ -176,8 +176,8 @@ impl KeyBook {
         Some(self.find_hmac(name)?.octets())
     }
 
-    /// Returns the key with exactly this name, if the book has such a key. The key can compute the
-    /// HMACs of many texts. Nothing is allocated.
+    /// Returns the key with exactly this name, or `None` if the book has no such key. The key can
+    /// compute the HMACs of many texts. Nothing is allocated.
     pub fn find_hmac(&self, name: Name<'_>) -> Option<&HmacKey>
         ensures { MatchOption result
             ((octets : List ℕ) → IsAmong (components name.entry, octets) self.now → ⊥)

@@ -29,8 +29,8 @@ AreQuoted text (c ∷ cs) =
     (front rest : List ℕ) × (text ≡ front ++ rest) × IsQuoted front c × AreQuoted rest cs
 
 -- The text of a test. `<>` denotes any component. A quoted text denotes the component with this
--- text. One or more quoted texts between [ and ] denote any component in this list. One or more
--- quoted texts between [^ and ] denote any component that is not in this list.
+-- text. A list of one or more quoted texts between [ and ] denotes any component in the list. A
+-- list of one or more quoted texts between [^ and ] denotes any component that is not in the list.
 abbrev pub IsTestText : List ℕ → PlainTest → Type 0
 IsTestText text Anything = text ≡ codes "<>"
 IsTestText text (OneOf cs) =

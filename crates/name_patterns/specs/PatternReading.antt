@@ -48,8 +48,8 @@ list_end (o ∷ text) =
     if o == 93 then Some (record { part = []; is_inner = false; rest = text }) else None
 
 -- `listed_within n text` is the components of a list, each written between < and >, up to the
--- closing bracket, and the text after this bracket. The result is `None` if the text is not a list,
--- or if the list has more than `n` components.
+-- closing bracket, and the text after this bracket. The result is `None` if the text does not begin
+-- with such a list, or if the list has more than `n` components.
 unfoldable pub listed_within : ℕ → List ℕ → Option (FrontPart (List Field))
 listed_within zero text = list_end text
 listed_within (suc n) text = option_map_or
@@ -77,8 +77,8 @@ abbrev pub bracketed_in : List ℕ → Option (FrontPart PlainTest)
 bracketed_in [] = list_in OneOf []
 bracketed_in (o ∷ text) = if o == 94 then list_in NoneOf text else list_in OneOf (o ∷ text)
 
--- the test of a text between < and > at the front, or `None`; if this text is empty, any component
--- passes
+-- the test written between < and > at the front of the text, or `None` if there is no such test; if
+-- nothing is between < and >, any component passes
 abbrev pub quoted_test_in : List ℕ → Option (FrontPart PlainTest)
 quoted_test_in text = do
   quoted ← quoted_in text
@@ -127,7 +127,7 @@ begins_repeat [] = false
 begins_repeat (o ∷ text) = list_any (λ sign. sign == o) (codes "*+?{")
 
 -- the range in braces, read from the text after the opening brace, and the text after the closing
--- brace, or `None` if the text is not a range with a closing brace
+-- brace, or `None` if the text does not begin with a range and a closing brace
 abbrev pub braced_in : List ℕ → Option (Bounds × List ℕ)
 braced_in text = do
   parts ← cut_at 125 text
@@ -158,8 +158,8 @@ atom_in text = do
     rest = bounds.1;
   })
 
--- The part of a pattern that has been read: its atoms, the number of atoms written in the text, its
--- closed groups, and its open group.
+-- The part of a pattern that has been read: its atoms, the number of these atoms that are written
+-- in the text, its closed groups, and its open group, if there is one.
 pub record PlainDraft : Type 0 where
   pub atoms : List PlainAtom
   pub written : ℕ
@@ -167,8 +167,8 @@ pub record PlainDraft : Type 0 where
   pub open_group : Option OpenGroup
 
 -- The draft with the atom at offset `at` added, and the text after this atom. The fault is `Syntax`
--- if there is no atom, or if the atom is the 33rd. The fault is `Inner` if the text of the atom has
--- a special character.
+-- if there is no atom, or if the atom is the 33rd. The fault is `Inner` if a component's text in
+-- the atom contains a special character.
 abbrev pub with_atom : PlainDraft → ℕ → List ℕ → Result (PlainDraft × List ℕ) PatternFault
 with_atom draft at text = on_result
     (λ found.

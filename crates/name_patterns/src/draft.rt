@@ -20,9 +20,9 @@ pub struct OpenGroup {
     pub first: usize,
 }
 
-/// The part of a pattern that has been read: its atoms, the number of atoms written in the text,
-/// its closed groups, and its open group. A closed group is a pair: the number of atoms before its
-/// first atom, and the number of atoms before its end.
+/// The part of a pattern that has been read: its atoms, the number of these atoms that are written
+/// in the text, its closed groups, and its open group, if there is one. A closed group is a pair:
+/// the number of atoms before its first atom, and the number of atoms before its end.
 #[derive(Debug, Drop)]
 pub struct Draft {
     pub atoms: Vec<Atom>,
@@ -122,8 +122,8 @@ impl Draft {
         Ok(())
     }
 
-    /// Adds the item at the front of the text. The item is at offset `at` of the pattern. Returns
-    /// the remaining text.
+    /// Adds the item at the front of the text: a parenthesis or an atom. The item is at offset `at`
+    /// of the pattern. Returns the remaining text.
     pub fn add_item<'a>(
         &mut self,
         alloc: Global,

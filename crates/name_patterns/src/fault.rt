@@ -7,8 +7,8 @@ use thiserror::Error;
 /// Why a text is not a pattern, or not a template: the fault of the leftmost faulty item, with the
 /// offset of this item's first octet. The first octet of the text has offset 0. If an item has
 /// several faults, the first one in the order of this enum is reported, with one exception: the
-/// fault of a tenth group that is never closed is `BadGroup`. `Memory` may be returned in place of
-/// any other fault.
+/// fault of a tenth group that is never closed is `BadGroup`. `Memory` may be returned for any
+/// text.
 #[derive(Clone, Copy, Debug, PartialEq, Eq, Error)]
 pub enum PatternFault {
     /// The text at this offset is not in the grammar, or is the 33rd atom.

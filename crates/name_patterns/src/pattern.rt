@@ -44,8 +44,9 @@ impl Pattern {
         self.groups.len() as u8
     }
 
-    /// Returns what the groups capture, if the pattern matches the name. From left to right, each
-    /// atom matches as many components as a match of the whole name allows. Nothing is allocated.
+    /// Returns what the groups capture, or `None` if the pattern does not match the name. From left
+    /// to right, each atom matches as many components as a match of the whole name allows. Nothing
+    /// is allocated.
     pub fn matches(&self, name: Name<'_>) -> Option<Captures>
         // If captures are returned, the pattern matches the name, and the captures are the
         // positions of the groups in the greatest split.

@@ -82,15 +82,15 @@ impl Pattern {
     /// Reads a pattern: `^`, items and `$`. If an anchor is missing, `<>*` is implied in its place.
     /// An item is an atom, or a group: atoms between `(` and `)`. The atom `<>` matches any
     /// component. The URI text of a component, written between `<` and `>`, matches that component.
-    /// A list of components, each between `<` and `>`, in the brackets `[` and `]` matches any
-    /// component in the list. A list between `[^` and `]` matches any component that is not in the
-    /// list. A repeat may follow an atom: `*`, `+`, `?`, `{2}`, `{2,}`, `{,4}` or `{2,4}`, with
-    /// numbers up to 64. A pattern has at most 32 written atoms and at most 9 groups.
+    /// One or more components, each between `<` and `>`, form a list. A list between `[` and `]`
+    /// matches any component in the list. A list between `[^` and `]` matches any component that is
+    /// not in the list. An atom may end with a repeat: `*`, `+`, `?`, `{2}`, `{2,}`, `{,4}` or
+    /// `{2,4}`, with numbers up to 64. A pattern has at most 32 written atoms and at most 9 groups.
     ///
     /// If the text is not a pattern, returns the fault of the leftmost faulty item: see
     /// `PatternFault`. The faulty item can be an atom with its repeat, a repeat that follows
-    /// another repeat or a group, a parenthesis, a misplaced anchor, or text that belongs to no
-    /// item. A group that is never closed is faulty at its opening parenthesis. `Memory` may be
+    /// another repeat or a group, a parenthesis, a misplaced anchor, or other text in the place of
+    /// an item. A group that is never closed is faulty at its opening parenthesis. `Memory` may be
     /// returned for any text.
     pub fn read(alloc: Global, text: &str) -> Result<Pattern, PatternFault>
         // The text denotes the returned pattern.

@@ -88,7 +88,7 @@ pub fn begins_repeat(text: &str) -> bool
 }
 
 /// Reads a repeat in braces from the text after its opening brace. Returns the repeat and the
-/// remaining text.
+/// remaining text, or `None` if the text does not begin with a range and a closing brace.
 fn braced_repeat(text: &str) -> Option<(Repeat, &str)>
     ensures read { option_map (λ found. (bounds_of found.0, found.1.now)) result
         ≡ read.braced_in text.now }

@@ -152,10 +152,10 @@ fn split_before(repeat: Repeat, passed: Places, after: Places) -> Places
 }
 
 /// Fills the table from the row of the end back to the row of the atom at index `first`. The name
-/// has `len` components. Suppose that, for an atom from index `first` on, there is no position from
-/// which this atom and the later atoms can match all remaining components. The name then has no
-/// split, so the function stops and returns false. For each atom, each component is tested at most
-/// once.
+/// has `len` components. Suppose that, for some atom at index `first` or later, there is no
+/// position from which this atom and the later atoms can match all remaining components. The name
+/// then has no split, so the function stops and returns false. For each atom, each component is
+/// tested at most once.
 fn fill(
     atoms: &[Atom],
     first: usize,

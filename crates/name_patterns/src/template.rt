@@ -95,8 +95,8 @@ impl Template {
         Ok(expanded)
     }
 
-    /// Returns whether the expanded name would have more than 64 components. In this case, `expand`
-    /// returns `TooManyComponents`. Nothing is allocated.
+    /// Returns whether the expanded name would have more than 64 components. If the result is true,
+    /// `expand` returns `TooManyComponents`. Nothing is allocated.
     pub fn is_too_long(&self, captures: &Captures) -> bool
         ensures { result ≡ nat_lt 64 (sum_by (part_len captures.now) self.now) }
     {
@@ -122,8 +122,8 @@ fn append_part(
     ensures ok { OnOk result
         (expanded.new ≡ expanded.old ++ template.part_of captures.now (components name.entry)
         (part_of part.now)) }
-    // If the part is a group or a valid component, and the result has at most 64 components, the
-    // call fails only if memory runs out.
+    // If the part is a group or a valid component, and `expanded` with the appended components has
+    // at most 64 components, the call fails only if memory runs out.
     ensures room { CanStand (part_of part.now)
         → length expanded.old + length
         (template.part_of captures.now (components name.entry) (part_of part.now)) ≤ 64
@@ -149,7 +149,8 @@ fn append_between(
 ) -> Result<(), NameFault>
     ensures ok { OnOk result
         (expanded.new ≡ expanded.old ++ between (components name.entry) (start, end)) }
-    // If the result has at most 64 components, the call fails only if memory runs out.
+    // If `expanded` with the appended components has at most 64 components, the call fails only if
+    // memory runs out.
     ensures room { length expanded.old + length (between (components name.entry) (start, end)) ≤ 64
         → IfErr result (λ fault. fault ≡ NameFault.Memory) }
 {

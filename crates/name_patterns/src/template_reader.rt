@@ -11,7 +11,8 @@ use crate::template::{Part, Template};
 use crate::text::{first_quoted, has_special, read_text};
 use std::alloc::Global;
 
-/// Returns the decimal digit at the front of the text, and the remaining text.
+/// Returns the decimal digit at the front of the text, and the remaining text, or `None` if there
+/// is no digit at the front.
 fn first_digit(text: &str) -> Option<(u8, &str)>
     ensures read { option_map (λ digit. (digit.0, digit.1.now)) result ≡ read.digit_in text.now }
     ensures shorter { IfSome result (λ digit. length digit.1.now < length text.now) }

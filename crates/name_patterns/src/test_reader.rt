@@ -110,8 +110,8 @@ fn read_quoted(alloc: Global, at: usize, text: &str) -> Result<FrontPart<'_, Tes
     })
 }
 
-/// Reads the test at the front of the text. `at` is the offset in the pattern of the item that has
-/// this test.
+/// Reads the test at the front of the text. The atom that has this test is at offset `at` of the
+/// pattern.
 pub fn read_test(alloc: Global, at: usize, text: &str) -> Result<FrontPart<'_, Test>, PatternFault>
     ensures read { let test = read.test_in text.now in
         MatchResult result (λ found. test ≡ Some (record {

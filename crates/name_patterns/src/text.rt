@@ -10,7 +10,7 @@ use crate::fault::PatternFault;
 use ndn_names::{Component, NameFault, component_from_uri};
 use std::alloc::Global;
 
-/// The special characters. A component's text in a pattern or a template may not contain them.
+/// The special characters. A component's text in a pattern or a template must not contain them.
 const SPECIAL: &[u8; 13] = b"\\()[]{}*+?^$|";
 
 /// A component, as read from its text.

@@ -1,4 +1,4 @@
--- Spare capacity in tables with one row for each name or signer.
+-- Spare capacity for one more row of a table.
 use Rattle.std.specs.Prelude.{ℕ, ◌<◌, Option, None, Some}
 
 -- If `prepared` is present, the capacity of a table is greater than `len`, the number of rows in

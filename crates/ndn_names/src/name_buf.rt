@@ -67,7 +67,8 @@ impl NameBuf {
     pub fn append(&mut self, kind: u16, value: &[u8]) -> Result<(), NameFault>
         ensures ok { OnOk result (self.new ≡ self.old ++ (kind, value.now) ∷ []) }
         ensures err { OnErr result (self.new ≡ self.old) }
-        // The fault is the reason for a refusal, or `Memory` if the component is valid.
+        // The fault is the one that `component_after` returns, or `Memory` if `component_after`
+        // returns no fault.
         ensures exact { let next = component_after (length self.old) (Ok (kind, value.now)) in
             MatchResult result (λ _. next ≡ Ok (kind, value.now))
             (IsFaultOrMemory next (kind, value.now)) }

@@ -1,4 +1,4 @@
--- What `single` returns for octets that are exactly one element, and for other octets.
+-- What `single` returns for a list of exactly one element, and for other lists.
 use Rattle.std.proofs.Common.{◌≡◌, ◌≢◌, ℕ, List, [], ◌∷◌, length, refl, ap, ◌∙◌, arith, false}
 use Rattle.std.specs.Prelude.{None, Some, Result, Ok, Err, ◌==◌, if◌then◌else◌}
 use Rattle.ndn_tlv.specs.declared.fault.TlvFault.{TlvFault}
