@@ -18,8 +18,8 @@ less_not a b c d h = grind (arith, nat_tests)
 less_itself : (a b : ℕ) → less a b a b ≡ false
 less_itself a b = grind (arith, nat_tests)
 
--- if `a` is not reported before `b`, and `b` is not reported before `c`, `a` is not reported before
--- `c`
+-- if `a` is not reported before `b`, and `b` is not reported before `c`, then `a` is not reported
+-- before `c`
 along : (a b c : RulesFault) → sooner a b ≡ false → sooner b c ≡ false → sooner a c ≡ false
 along a b c h k = less_along a.line (kind_number a.kind) b.line (kind_number b.kind) c.line (kind_number c.kind) h k
 

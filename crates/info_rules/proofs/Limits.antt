@@ -1,4 +1,4 @@
--- Keys that are read without a fault: their number and their ids.
+-- The number of keys, and the ids of rules, that are read without a fault.
 use Rattle.std.proofs.Common.{◌≡◌, ℕ, Bool, true, false, cond, List, [], ◌∷◌, ◌++◌, length, suc, refl, sym, ap, subst, ◌∙◌}
 use Rattle.std.specs.Prelude.{◌≢◌, Option, Some, None, Ok, Err, bytes_eq, codes, MatchOption}
 use Rattle.std.specs.List.{AllByRecursion, flat_map}

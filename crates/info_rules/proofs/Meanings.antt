@@ -86,7 +86,7 @@ known_all : (forms : List PlainForm) (keys : List Block) → HasOnly (words_of f
 known_all forms [] h = refl
 known_all forms (key ∷ keys) h = rw (known_word forms key h.0, known_all forms keys h.1) refl
 
--- if all keys are among `few`, and every word of `few` is in `more`, all keys are among `more`
+-- if all keys are among `few`, and every word of `few` is in `more`, then all keys are among `more`
 pub only_of : (few more : List (List ℕ)) (keys : List Block) → ((word : List ℕ) → IsOneOf few word → IsOneOf more word) → HasOnly few keys → HasOnly more keys
 only_of few more [] among h = tt
 only_of few more (key ∷ keys) among h = (among key.0.key h.0, only_of few more keys among h.1)

@@ -149,8 +149,8 @@ no_other_again tested form [] may = refl
 no_other_again tested form (key ∷ keys) (inl none, may) = rw none (no_other_again tested form keys may)
 no_other_again tested form (key ∷ keys) (inr some, may) = rw (some, is_itself form) (no_other_again tested form keys may)
 
--- if some key is `word`, each key `word` belongs to `form`, and no key belongs to another form,
--- then `first_other` returns `form`
+-- `first_other` returns `form` if some key is `word`, if each key `word` belongs to `form`, and if
+-- no key belongs to another form
 first_there : (tested : Tested) (form : Form) (word : List ℕ) (keys rest : List Block) (found : Block) → AllMayStand tested form keys → ((key : Block) → key.0.key ≡ word → form_of tested key ≡ Some form) → named word keys ≡ found ∷ rest
     → (line : ℕ) × (first_other tested None keys ≡ Some (form, line))
 first_there tested form word [] rest found may means e = absurd cc

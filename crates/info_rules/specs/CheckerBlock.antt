@@ -55,7 +55,7 @@ has_locator keys type signature =
     not (needs_locator type signature) || is_there (codes "key-locator") keys
 
 -- the requirement on the key's name, if the block has one: `Hierarchical` for a hierarchical
--- checker, otherwise the requirement of the first key locator
+-- checker, otherwise the requirement that the first `key-locator` states
 abbrev pub locator_of : Bool → List Block → Found (Option LocatorTest)
 locator_of hierarchical keys =
     if hierarchical then Ok (Some locators.Hierarchical)

@@ -31,7 +31,7 @@ rule_parts line keys = both
     (both (each filter_in (named (codes "filter") keys))
     (each checker_in (named (codes "checker") keys)))
 
--- the rule that the keys of a block state, with all its filters and checkers
+-- the rule that the keys of a block state, or the fault that is reported
 unfoldable pub rule_of_keys : ℕ → List Block → Found PlainRule
 rule_of_keys line keys =
     beside (after None (walk_faults blocks.Rule keys)) (shown rule_with (rule_parts line keys))

@@ -7,7 +7,7 @@ use Rattle.ndn_packets.specs.Covered.{Covered}
 use Rattle.info_rules.specs.declared.rule.Kind.{Kind}
 use Rattle.info_rules.specs.declared.rule.Kind.TheVariants as kinds
 
--- a packet with its kind, the name that the rules see, and its signature
+-- a packet with its kind, the name that the rules see, and its signature, if any
 pub record SeenPacket : Type 0 where
   pub kind : Kind
   pub name : List Field

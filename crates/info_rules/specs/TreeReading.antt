@@ -143,6 +143,6 @@ unfoldable pub tree_in : List ℕ → Result (List PlainEntry) RulesFault
 tree_in text = if nat_lt 65536 (length text) then Err (record { line = 0; kind = TooLarge })
     else entries_in text
 
--- `fault` is the fault that `read` returns, or `Memory`, which may occur for any text
+-- `fault` is the fault in `read`, or `Memory`, which may occur for any text
 abbrev pub IsTreeFaultOf : {A : Type 0} → Result A RulesFault → RulesFault → Type 0
 IsTreeFaultOf read fault = (read ≡ Err fault) ⊎ (fault ≡ memory_fault)

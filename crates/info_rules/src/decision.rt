@@ -21,9 +21,9 @@ use ndn_tlv::Memory;
 use std::alloc::Global;
 use thiserror::Error;
 
-/// Why a packet is denied. If several checkers have different reasons, the reason that is last in
-/// this list is reported. The error message of a reason states what was wrong, and what the signer
-/// or the operator can do.
+/// Why a packet is denied. If several checkers have different reasons, the one of their reasons
+/// that comes last in this list is reported. The error message of a reason states what was wrong,
+/// and what the signer or the operator can do.
 #[derive(Clone, Copy, Debug, PartialEq, Eq, Error)]
 pub enum Reason {
     /// The Interest is not signed.
@@ -31,7 +31,7 @@ pub enum Reason {
     NotSigned,
     /// The Interest's parameters digest is not the last component of its name, or its signature has
     /// no SignatureTime.
-    #[error("Shape: no SignatureTime, or the digest is not last in the name; sign with a time, digest last")]
+    #[error("Shape: no SignatureTime, or the digest is not last in the name; add a time, put the digest last")]
     Shape,
     /// No checker accepts the signature type of the packet.
     #[error("SigType: no checker takes this type of signature; sign with the rule's sig-type")]

@@ -6,8 +6,8 @@ ghost use Rattle.info_rules.specs.declared.fault.RulesFaultKind.TheVariants as k
 use std::alloc::{AllocError, AllocFailed};
 use thiserror::Error;
 
-/// The kinds of faults. If one line has several faults, the fault whose kind comes first in this
-/// list is reported.
+/// The kinds of faults. If the line that is reported has several faults, the fault whose kind comes
+/// first in this list is reported.
 #[derive(Clone, Copy, Debug, PartialEq, Eq, Error)]
 pub enum RulesFaultKind {
     /// A word or a brace where it is not allowed, a quote that is not closed on its line, or a
@@ -28,8 +28,8 @@ pub enum RulesFaultKind {
     #[error("Missing: this block lacks a key that it needs")]
     Missing,
     /// A key whose value is missing or invalid, or a key without the block that it needs. A key
-    /// with a value or a block that it cannot have. A key of a second form in a block that allows
-    /// only one form.
+    /// with a value or a block that it cannot have. A key of a second form in a filter or a key
+    /// locator. There are three forms: `name` and `relation`; `regex`; `hyper-relation`.
     #[error("BadValue: wrong or missing value or block, or a key that cannot stand with the others")]
     BadValue,
     /// A key is given twice in a block that allows it once, or two rules have the same id.
@@ -49,7 +49,7 @@ pub enum RulesFaultKind {
 impl RulesFaultKind {
     ghost use Rattle.info_rules.specs.Names.{fault_name};
 
-    /// Returns the name of the fault, as it is printed.
+    /// Returns the name of the kind, as it is printed.
     pub fn name(self) -> &'static str
         ensures { result.now ≡ fault_name self }
     {
@@ -75,7 +75,7 @@ impl RulesFaultKind {
     }
 }
 
-/// Why a text is not a rule file: the kind of the fault and its line. The first line is 1.
+/// Why the reading of a rule file failed: the kind of the fault and its line. The first line is 1.
 /// `TooLarge` and `Memory` are reported at line 0.
 #[derive(Clone, Copy, Debug, PartialEq, Eq, Error)]
 #[error("line {line}: {kind}")]

@@ -44,7 +44,7 @@ impl<'a> Key<'a> {
         }
     }
 
-    /// Returns a fault if the key has a value or has no block.
+    /// Returns the fault `BadValue` if the key has a value or has no block, otherwise `None`.
     pub fn shape_fault(self) -> Option<RulesFault>
         ensures { result ≡ shape_fault (key_of self.entry) }
     {

@@ -21,7 +21,8 @@ use std::alloc::Global;
 /// prefix that must also be a prefix of the packet's name.
 const KEY: &[u8; 3] = b"KEY";
 
-/// The greatest number of components after `KEY` in a key's name. The least number is 1.
+/// The greatest number of components after `KEY` in the name of a hierarchical key. The least
+/// number is 1.
 const MAX_AFTER_KEY: usize = 3;
 
 /// Whether a key meets a requirement. `Err` means that memory ran out.

@@ -80,7 +80,7 @@ pub enum LocatorTest {
 /// A requirement on a signature.
 #[derive(Debug, Drop)]
 pub enum Checker {
-    /// DigestSha256, with any KeyLocator.
+    /// DigestSha256, with any KeyLocator or none.
     Sha256,
     /// HmacWithSha256 with a key of the key book. The key's name meets the requirement.
     HmacSha256(LocatorTest),

@@ -20,7 +20,7 @@ const MAX_ID_LEN: usize = 100;
 /// meet.
 #[derive(Clone, Copy)]
 pub enum CheckerType {
-    /// The requirement of the checker's key locator.
+    /// The requirement that the checker's `key-locator` block states.
     Customized,
     /// The requirement `LocatorTest::Hierarchical`.
     Hierarchical,

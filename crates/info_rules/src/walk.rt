@@ -112,7 +112,7 @@ fn judge_all_times(alloc: Global, forms: &[Form], keys: Keys<'_>, report: &mut R
 }
 
 /// Returns the fault that is reported for those keys of a block that are unknown or are given too
-/// many times. The value of the first key with a word is not checked here.
+/// many times. For each word, the value of the first key with this word is not checked here.
 #[tactic(auto, using(crate::proofs::Reports::after_append, crate::proofs::Reports::after_none), unfolding(crate::specs::Walk::walk_faults))]
 pub fn walk(alloc: Global, block: Block, keys: Keys<'_>) -> Result<Report, Memory>
     ensures { IfOk result
