@@ -70,8 +70,8 @@ lower_removed name rows at lt lower =
           lower.above (k + 1) d (omega arith) (omega arith) (ap (λ (r : Placed). name_cmp (name_at r) name) (sym (get_or-remove_above rows at d k ge lt)) ∙ less);
     }
 
--- if no row is at the position of `name`, or if the full name of the row there does not begin with
--- `name`, then no cached full name begins with `name`
+-- if no row is at the position where a binary search for `name` ends, or if the full name of the
+-- row there does not begin with `name`, then no cached full name begins with `name`
 pub none_left : (name : List Field) (rows : List Placed) (used : List (ℕ × ℕ)) (next at : ℕ) → Sound rows used next → IsLower name rows at
     → ((d : Placed) → at < length rows → IsPrefix name (name_at (get_or rows at d)) → ⊥) → All (λ d. IsPrefix name (full_name_of d) → ⊥) (cached_in rows used)
 none_left name rows used next at sound lower never =

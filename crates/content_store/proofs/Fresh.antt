@@ -98,8 +98,8 @@ without_none name [] h = refl
 without_none name (c ∷ cs) h =
     ap (λ b. cond (not b) (c ∷ without name cs) (without name cs)) (differ (full_name_of c) name h.0) ∙ ap (λ (t : List CachedData). c ∷ t) (without_none name cs h.1)
 
--- if no row is at the position of `name`, or if the full name of the row there is not `name`, then
--- no cached Data has the full name `name`
+-- if no row is at the position where a binary search for `name` ends, or if the full name of the
+-- row there is not `name`, then no cached Data has the full name `name`
 pub none_named : (rows : List Placed) (at : ℕ) (name : List Field) → Rising rows → IsLower name rows at → ((d : Placed) → at < length rows → name_at (get_or rows at d) ≢ name)
     → (used : List (ℕ × ℕ)) (next : ℕ) → Sound rows used next → All (λ d. full_name_of d ≢ name) (cached_in rows used)
 none_named rows at name rising lower other used next sound =

@@ -84,8 +84,8 @@ module _ (name : List Field) (rows : List Placed) (rising : Rising rows) (mid : 
   pub high_moves : (low high : ℕ) → LowerSoFar name rows low high → low ≤ mid → (name_cmp (name_at r) name ≡ Less → ⊥) → LowerSoFar name rows low mid
   high_moves low high so le never = record { ordered = le; below = so.below; above = none_below never }
 
--- if a range is not empty and shorter than `2 ^ left`, then `left` is not 0, and each number up to
--- half the length of the range is less than `2 ^ (left - 1)`
+-- if a range is shorter than `2 ^ left` and has at least one position, then `left` is not 0, and
+-- each number up to half the length of the range is less than `2 ^ (left - 1)`
 pub halved : (left low high next : ℕ) → high - low < 2 ^ left → low < high → next ≤ (high - low) / 2
     → (n : ℕ) × (left ≡ n + 1) × (next < 2 ^ n)
 halved zero low high next h lt le = absurd (omega arith)

@@ -98,8 +98,8 @@ fn split(alloc: Global, blocks: &mut Vec<Block>, index: usize) -> Result<(), Mem
     Ok(())
 }
 
-/// If there are no blocks, creates one. Otherwise splits the block that `block_at` returns for
-/// position `at`, if that block is full.
+/// If there are no blocks, creates one. Otherwise splits the block whose index `block_at` returns
+/// for position `at`, if that block is full.
 fn make_room(alloc: Global, blocks: &mut Vec<Block>, at: usize) -> Result<(), Memory>
     requires laid { IsLaid blocks.old.items }
     requires within { at ≤ length (flat blocks.old.items) }

@@ -157,8 +157,8 @@ impl Store {
     /// Among the cached Data that answer an Interest of this key, finds the one with the least full
     /// name and returns its octets. Returns `None` if no cached Data answers. With MustBeFresh,
     /// only fresh Data count. A Data is fresh if its FreshnessPeriod, which begins at its arrival,
-    /// has not ended at `now`. `now` is in milliseconds since 1970. The returned Data becomes the
-    /// most recently used.
+    /// has not ended at `now`. `now` is in milliseconds since 1970. The Data that is found becomes
+    /// the most recently used.
     pub fn find(&mut self, key: Key<'_>, now: u64) -> Option<&[u8]>
         ensures found { GivesData (plain_key key.entry) now self.old.cached
             (option_map (λ o. o.now) result) }
@@ -192,8 +192,8 @@ impl Store {
         Some(self.rows.row(at).entry.octets())
     }
 
-    /// If `find` would return a Data for this key at the moment `now`, returns a position to pass
-    /// to `serve_at`. Otherwise returns `None`.
+    /// If `find` would find a Data for this key at the moment `now`, returns a position to pass to
+    /// `serve_at`. Otherwise returns `None`.
     pub fn place_for(&self, key: Key<'_>, now: u64) -> Option<usize>
         ensures { MatchOption result
             (All (λ c. ¬ CanServe (plain_key key.entry) now c) self.now.cached)

@@ -94,7 +94,7 @@ less (suc n) a b are bare lt =
     ] in
     by (nat_cmp (head n a) (head n b)) refl
 
--- the order of two lists of octets stays the same if their heads, the first n octets as numbers,
+-- the order of two lists of octets stays the same if their heads (the first n octets as numbers)
 -- are compared first
 pub by_head : (n : ℕ) (a b : List ℕ) → AreOctets a → AreOctets b → ordering_then (nat_cmp (head n a) (head n b)) (slice_cmp nat_cmp a b) ≡ slice_cmp nat_cmp a b
 by_head n a b are bare =

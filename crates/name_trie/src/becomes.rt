@@ -7,8 +7,8 @@ use crate::change::take_value;
 use crate::node::{Node, set_value};
 use slab::Slab;
 
-/// A rule that computes the new value of a name from the old value of this name, which may be
-/// absent.
+/// A rule that computes the new value of a name from the old value of this name, or from `None` if
+/// this name has no value.
 pub trait Becomes<V> {
     ghost becomes: { Self → Option V → V };
 
@@ -17,7 +17,7 @@ pub trait Becomes<V> {
 }
 
 /// Sets the value of node `k` to the value that the rule `how` computes from the old value of the
-/// node, which may be absent. Returns whether the node had no value before.
+/// node, or from `None` if the node has no value. Returns whether the node had no value before.
 pub fn put_at<V: Drop, B: Becomes<V> + Drop>(nodes: &mut Slab<Node<V>>, k: usize, how: B) -> bool
     requires { IsSome (get nodes.old k) }
     ensures turns { Turns k (Some (B.becomes how (value_in (get nodes.old) k)))

@@ -145,7 +145,7 @@ impl<V: Drop> NameMap<V> {
     }
 
     /// Sets the value of `name` to the value that the rule `how` computes from the old value of
-    /// `name`, which may be absent.
+    /// `name`, or from `None` if `name` has no value.
     pub fn put_with<B: Becomes<V> + Drop>(&mut self, name: Name<'_>, how: B) -> Result<(), Memory>
         requires { IsSome (map.get self.old.table (components name))
             ⊎ (map.len self.old.table + 1 < 2 ^ 64) }
@@ -186,8 +186,9 @@ impl<V: Drop> NameMap<V> {
     }
 
     /// Passes to the visitor `show` all names that have a value, in canonical order. Each name is
-    /// passed with the state of the walk at this name. If the result is `Err`, some of the names
-    /// may have been passed.
+    /// passed with the state `before`, updated with the values of the name's proper prefixes, the
+    /// shortest first, and then with the name's own value. If the result is `Err`, some of the
+    /// names may have been passed.
     pub fn show_all<W: Carry<V> + Drop, S: Show<W>>(
         &self,
         before: &W,

@@ -143,7 +143,7 @@ pub fn cut<V: Drop>(nodes: &mut Slab<Node<V>>, k: usize) -> Option<usize>
     node.parent
 }
 
-/// Returns the index `key`, or `None` if `key` is `k`.
+/// Returns the optional index `key`, or `None` if `key` is `Some(k)`.
 fn without(key: Option<usize>, k: usize) -> Option<usize>
     ensures { result ≡ unless k key }
 {

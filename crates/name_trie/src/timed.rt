@@ -196,8 +196,8 @@ fn put_timed<V: Timed + Drop>(nodes: &mut Slab<Node<V>>, timers: &mut Timers, k:
 }
 
 /// Sets the value of node `k` to the value that the rule `how` computes from the old value of the
-/// node, which may be absent. Updates the timer of the node and the total size `len`. If the node
-/// has no value before the call, memory for one more timer must be reserved.
+/// node, or from `None` if the node has no value. Updates the timer of the node and the total size
+/// `len`. If the node has no value before the call, memory for one more timer must be reserved.
 pub fn replace_at<V: Timed + Drop, B: Becomes<V> + Drop>(
     nodes: &mut Slab<Node<V>>,
     timers: &mut Timers,

@@ -107,8 +107,8 @@ impl<V: Timed + Drop> TimedMap<V> {
         value_of(&self.nodes, k)
     }
 
-    /// Returns whether some extension of `name` by one component, whose type number is at most
-    /// `kind`, may have a value. If the result is false, no such extension has a value.
+    /// Returns whether some extension of `name` by one component with a type number of at most
+    /// `kind` may have a value. If the result is false, no such extension has a value.
     pub fn has_below(&self, name: Name<'_>, kind: u16) -> bool
         ensures { result ≡ false → (c : Field) → c.0 ≤ kind
             → map.get self.now.table (components name.entry ++ c ∷ []) ≡ None }
@@ -129,7 +129,7 @@ impl<V: Timed + Drop> TimedMap<V> {
     }
 
     /// Sets the value of `name` to the value that the rule `how` computes from the old value of
-    /// `name`, which may be absent.
+    /// `name`, or from `None` if `name` has no value.
     pub fn put_with<B: Becomes<V> + Drop>(&mut self, name: Name<'_>, how: B) -> Result<(), Memory>
         ensures ok { OnOk result (self.new.table ≡ map.insert self.old.table
             (components name.entry)
@@ -229,7 +229,7 @@ impl<V: Timed + Drop> TimedMap<V> {
 
     /// Lets the visitor `how` change or remove the values of the proper prefixes of `name`, the
     /// shortest first, and then the value of `name`, all in one walk. Returns whether some
-    /// extension of `name` by one component, whose type number is at most `kind`, may have a value.
+    /// extension of `name` by one component with a type number of at most `kind` may have a value.
     /// If the result is false, no such extension has a value.
     pub fn take_along<T: Take<V>>(&mut self, name: Name<'_>, kind: u16, how: &mut T) -> bool
         ensures changed { (q : List Field) → map.get self.new.table q ≡ option_and_then

@@ -31,8 +31,8 @@ pub struct NameTrie<V> {
     alloc: Global,
     nodes: Slab<Node<V>>,
     root: Option<usize>,
-    // The reserved name, for which a call is prepared, and the node of this name. The reserved node
-    // is not removed.
+    // The name for which a call is prepared (the reserved name) and the node of this name (the
+    // reserved node). The reserved node is not removed.
     held: Option<(NameBuf, usize)>,
 }
 
@@ -82,7 +82,7 @@ fn put_value<V: Drop>(
 }
 
 /// Sets the value of `name` to the value that the rule `how` computes from the old value of `name`,
-/// which may be absent. Returns whether `name` had no value before.
+/// or from `None` if `name` has no value. Returns whether `name` had no value before.
 fn put_value_with<V: Drop, B: Becomes<V> + Drop>(
     alloc: Global,
     nodes: &mut Slab<Node<V>>,
@@ -233,7 +233,7 @@ impl<V: Drop> NameTrie<V> {
     }
 
     /// Sets the value of `name` to the value that the rule `how` computes from the old value of
-    /// `name`, which may be absent. Returns whether `name` had no value before.
+    /// `name`, or from `None` if `name` has no value. Returns whether `name` had no value before.
     pub fn put_with<B: Becomes<V> + Drop>(&mut self, name: Name<'_>, how: B) -> Result<bool, Memory>
         ensures added { IfOk result (λ is_new. is_new
             ≡ is_none (map.get self.old.table (components name.entry))) }
@@ -274,7 +274,8 @@ impl<V: Drop> NameTrie<V> {
     }
 
     /// Passes to the visitor `show` all names that have a value, in canonical order. Each name is
-    /// passed with the state of the walk at this name.
+    /// passed with the state `before`, updated with the values of the name's proper prefixes, the
+    /// shortest first, and then with the name's own value.
     pub fn show_all<W: Carry<V> + Drop, S: Show<W>>(
         &self,
         before: &W,

@@ -79,7 +79,7 @@ impl Guard {
 
     /// Records a command. Each call of `record` ends a preparation made by `prepare`, even if the
     /// call of `record` fails. `Memory` is returned only for a signer that has no recorded command
-    /// and is not prepared. On `Memory`, the recorded commands are unchanged.
+    /// and no prepared call. On `Memory`, the recorded commands are unchanged.
     pub fn record(&mut self, signer: Signer<'_>, time: u64, seq: Option<u64>) -> Result<(), Memory>
         ensures ok { OnOk result (self.new.latest ≡ with_recorded self.old.latest
             (record { signer = signer_of signer.entry; time = time; number = seq })) }

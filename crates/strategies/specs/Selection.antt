@@ -8,12 +8,12 @@ use Rattle.pit_fib.specs.declared.hops.Hop.{Hop}
 use Rattle.pit_fib.specs.Hops.{is_before}
 use Rattle.pit_fib.specs.Tables.{ByFace}
 
--- the type of a strategy: it selects hops, given the eligible hops, the moment at which each used
--- face was last used, and the present moment
+-- the type of the selection of a strategy: a function from the eligible hops, the moment at which
+-- each used face was last used, and the present moment, to the hops that the strategy selects
 abbrev pub Selection : Type 0
 Selection = List Hop → ByFace → ℕ → List Hop
 
--- whether the moment `time` is less than 10 ms before `now`, or after `now`
+-- whether the moment `time` is after `now`, or less than 10 ms before `now`
 abbrev pub is_recent : ℕ → ℕ → Bool
 is_recent now time = nat_lt now (time + 10)
 

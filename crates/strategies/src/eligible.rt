@@ -49,7 +49,7 @@ pub fn eligible_at(hops: &Hops, i: usize, ask: Ask) -> Option<Hop>
     }
 }
 
-/// Returns whether the moment `time` is less than 10 milliseconds before `now`, or after `now`.
+/// Returns whether the moment `time` is after `now`, or less than 10 milliseconds before `now`.
 pub fn is_recent(now: u64, time: u64) -> bool
     ensures { result ≡ came_recently now time }
 {

@@ -14,7 +14,8 @@ pub struct Ask {
     /// Whether the name of the Interest begins with `/localhost`. Such an Interest stays on this
     /// machine.
     pub localhost: bool,
-    /// Whether the HopLimit has become 0. Such an Interest is sent to no other machine.
+    /// Whether the HopLimit of the Interest has become 0. Such an Interest is sent to no other
+    /// machine.
     pub hop_zero: bool,
     /// The present moment, in milliseconds since 1970.
     pub now: u64,
