@@ -1,5 +1,5 @@
--- The effects of commands on the tables, and their refusals (NFD Management, "FIB Management", "RIB
--- Management", "Strategy Choice Management", "Content Store Management").
+-- The effects of commands on the tables, and the refusals of commands (NFD Management, "FIB
+-- Management", "RIB Management", "Strategy Choice Management", "Content Store Management").
 use Rattle.std.specs.Prelude.{◌≡◌, ℕ, ◌+◌, ◌-◌, ◌^◌, min, List, [], ◌∷◌, length, Bool, true, not, is_none, nat_lt, nat_le, ◌==◌, ◌&&◌, Option, None, Some, find, codes, if◌then◌else◌}
 use Rattle.std.specs.FinMap as map
 use Rattle.std.specs.Option.{option_map}

@@ -64,7 +64,8 @@ response status text body =
 abbrev pub body_limit : PlainCommand → ℕ
 body_limit c = length (octets_of c.name) + BODY_EXTRA
 
--- an upper bound of the length of a whole reply to the command, in octets, for every status
+-- an upper bound of the length of a whole reply to the command, in octets, for every status with
+-- the text that `text_of` gives
 abbrev pub reply_limit : PlainCommand → ℕ
 reply_limit c = length (octets_of c.name) + REPLY_EXTRA
 

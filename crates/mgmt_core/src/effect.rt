@@ -23,12 +23,12 @@ use pit_fib::{Faces, Fib, MAX_DEPTH, StrategyTable};
 /// 1970. `up` contains the faces that are up. Each face that has a next hop or a route must be in
 /// `up`.
 ///
-/// Returns the first status that applies, in this order:
-/// - 414 if the name has more than 32 components (`fib/add-nexthop`, `rib/register`,
+/// Returns the body of the reply, and the first status that applies, in this order:
+/// - 414 if `command.name` has more than 32 components (`fib/add-nexthop`, `rib/register`,
 ///   `strategy-choice/set`);
 /// - 410 if the face of the next hop or route is not up (`fib/add-nexthop`, `rib/register`);
 /// - 404 if the strategy does not exist (`strategy-choice/set`);
-/// - 503 if the name is new and the table already has 4,096 names (`fib/add-nexthop`,
+/// - 503 if `command.name` is new and the table already has 4,096 names (`fib/add-nexthop`,
 ///   `rib/register`, `strategy-choice/set`), or the route is new and the table already has 16,384
 ///   routes (`rib/register`);
 /// - 200 if none of these statuses applies. Commands that this list does not name, such as

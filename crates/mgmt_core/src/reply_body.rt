@@ -21,22 +21,22 @@ use pit_fib::StrategyId;
 use std::alloc::Global;
 use std::mem;
 
-/// An upper bound of the size of a reply's body, in octets. A body that is not empty is a
-/// ControlParameters element. Its size counts its header, the header of its Name, and all fields
-/// after the Name, but not the octets of the command's name. The replies to `rib/register` can have
-/// the greatest size.
+/// An upper bound of the number of octets in a reply's body, not counting the value of the Name
+/// field. A body that is not empty is a ControlParameters element: its header, the header of its
+/// Name, and all fields after the Name are counted. This number can be greatest for replies to
+/// `rib/register`.
 pub const BODY_EXTRA: usize = 70;
 
-/// An upper bound of the number of octets in a whole reply, not counting the octets of the
-/// command's name.
+/// An upper bound of the number of octets in a whole reply, not counting the value of the Name
+/// field. The text of the reply must be the text that `status_text` returns for its status.
 pub const REPLY_EXTRA: usize = 116;
 
 /// The greatest length, in octets, of the header of an element whose type takes one octet.
 const HEADER_LEN: usize = 10;
 
 impl Command<'_> {
-    /// Returns an upper bound of the length of a reply to the command, in octets, for every status
-    /// and face.
+    /// Returns an upper bound of the length of a reply to the command, in octets. The bound holds
+    /// for every face, and for every status with the text that `status_text` returns for it.
     pub fn reply_limit(&self) -> usize
         ensures { result ≡ reply_limit (asked self.now) }
     {
@@ -182,8 +182,8 @@ impl ReplyRoom {
         Ok(())
     }
 
-    /// Returns the body of the reply to a command that came from this face. Uses up the reserved
-    /// memory.
+    /// Returns the body of a reply with status 200 to a command that came from this face. Uses up
+    /// the reserved memory.
     pub fn body_of(
         &mut self,
         alloc: Global,

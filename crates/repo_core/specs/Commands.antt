@@ -11,7 +11,7 @@ use Rattle.repo_core.specs.declared.types.TheConstants.{BAD_PARAMETERS, FULL, NO
 pub data Case : Type 0 where
   -- at least one stored Data matches the command
   Stored : Case
-  -- there is a want (a pending insert) with the command's name and CanBePrefix flag
+  -- there is a want (a pending insert) with the Name and the CanBePrefix flag in the parameters
   Wanted : Case
   -- one more want would exceed the limits
   NoPlace : Case

@@ -56,8 +56,8 @@ first_case_status s c (row ∷ rows) = if holds s c row.0 then row.1 else first_
 abbrev pub repo_status_of : Held → RepoCommand → ℕ
 repo_status_of s c = first_case_status s c (verb_row c.verb).answers
 
--- the Interest to send, with the command's name, CanBePrefix and lifetime, if the command is an
--- insert with status 100 (pending); otherwise None
+-- the Interest to send, with the Name, CanBePrefix and lifetime in the command's parameters, if the
+-- command is an insert with status 100 (pending); otherwise None
 abbrev pub fetch_of : RepoCommand → ℕ → Option Want
 fetch_of c status =
     elim c.verb [

@@ -52,7 +52,8 @@ pub fn verb_after(start: Name<'_>, name: Name<'_>) -> Option<Verb>
 }
 
 #[tactic(auto, unfolding(crate::specs::Reading::repo_command_at))]
-/// Returns the command that the name encodes, or `None` if the name does not encode a command.
+/// Returns the command that the name encodes in a repository with the prefix `start`, or `None` if
+/// the name does not encode a command.
 pub fn command_in<'a>(start: Name<'_>, name: Name<'a>) -> Option<Asked<'a>>
     ensures exact { option_map plain result
         ≡ repo_command_at (components start.entry) (components name.entry) }

@@ -10,7 +10,8 @@ use ndn_names::NameBuf;
 use ndn_packets::command_types::{COUNT, REPO_COMMAND_RESPONSE, REPO_STATUS_CODE, STATUS_TEXT};
 use ndn_tlv::{Memory, element_len, nni_element_len, put_element, put_nni_element, put_number};
 
-/// A bound on the length of a reply to an allowed command, in octets.
+/// An upper bound of the length, in octets, of a reply with the text that `repo_status_text`
+/// returns for its status.
 pub const MAX_REPLY_LEN: usize = 55;
 
 /// An Interest that is sent to fetch wanted Data.

@@ -106,19 +106,19 @@ impl Repo {
     /// Applies a command. The name of a command is the prefix, the verb, the parameters and the
     /// digest of the Interest's parameters. `now` is in milliseconds since 1970.
     ///
-    /// An object (a stored Data) matches a command if the object answers an Interest with the
-    /// command's name and CanBePrefix flag. The equal want is the want (pending insert) with the
-    /// command's name and CanBePrefix flag, if there is one. An insert is answered 200 with the
+    /// An object (a stored Data) matches a command if the object answers an Interest with the Name
+    /// and the CanBePrefix flag in the command's parameters. The equal want is the want (pending
+    /// insert) with this Name and this flag, if there is one. An insert is answered 200 with the
     /// number of matching objects if at least one object matches. If no object matches, the insert
     /// renews the equal want. If no object matches and there is no equal want, the insert adds a
     /// want. An insert that renews or adds a want is answered 100. An insert is answered 503 if it
     /// would have to add a want and the limits leave no room for the want. A want expires at the
-    /// end of its lifetime. A delete removes the matching objects and the equal want. The delete is
-    /// answered 200 with the number of removed objects if it removed an object or a want, and 404
-    /// if it removed neither. A check is answered 200 with the number of matching objects if at
-    /// least one object matches. If no object matches, the check is answered 100 if there is an
-    /// equal want, and 404 if there is none. A name that is not the name of a command is answered
-    /// 400.
+    /// end of its lifetime, or at the time `u64::MAX` if that is earlier. A delete removes the
+    /// matching objects and the equal want. The delete is answered 200 with the number of removed
+    /// objects if it removed an object or a want, and 404 if it removed neither. A check is
+    /// answered 200 with the number of matching objects if at least one object matches. If no
+    /// object matches, the check is answered 100 if there is an equal want, and 404 if there is
+    /// none. A name that is not the name of a command is answered 400.
     ///
     /// Only an insert can return `Memory`. An insert that returns `Memory` leaves the objects and
     /// wants unchanged. Every insert ends the preparation that `prepare_command` or `prepare_offer`
@@ -210,8 +210,9 @@ impl Repo {
         self.wants.will_be_filled_by(packet, now)
     }
 
-    /// Returns the octets of the stored Data that answers the Interest. If several stored Data
-    /// answer, the Data with the least full name is chosen. MustBeFresh is ignored.
+    /// Returns the octets of the stored Data that answers the Interest, or `None` if no stored Data
+    /// answers. If several stored Data answer, the Data with the least full name is chosen.
+    /// MustBeFresh is ignored.
     pub fn serve(&self, interest: &Interest<'_>) -> Option<&[u8]>
         ensures { option_map (λ o. o.now) result ≡ served (components interest.now.name)
             interest.now.can_be_prefix self.now.held.objects }

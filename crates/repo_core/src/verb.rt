@@ -1,18 +1,19 @@
 ghost use Rattle.std.specs.Prelude.{◌≡◌};
 ghost use Rattle.repo_core.specs.Commands.{verb_named};
 
-/// The verb of a command.
+/// The verb of a command. A Data matches a command if the Data answers an Interest with the Name
+/// and the CanBePrefix flag in the command's parameters.
 #[derive(Clone, Copy, Debug, PartialEq, Eq)]
 pub enum Verb {
-    /// `insert`: requests a Data that matches the command, and stores the Data when it arrives.
-    /// Requests nothing if a matching Data is stored already, or if the reply has the status 503
-    /// (repository full).
+    /// `insert`: requests a Data that matches the command, and stores the Data if it arrives before
+    /// the want (pending insert) expires. Requests nothing if a matching Data is stored already, or
+    /// if the reply has the status 503 (repository full).
     Insert,
-    /// `delete`: removes the stored Data that match the command, and the want (pending insert) with
-    /// the command's name and CanBePrefix flag.
+    /// `delete`: removes the stored Data that match the command, and the want with the Name and
+    /// the CanBePrefix flag in the command's parameters.
     Delete,
     /// `check`: counts the stored Data that match the command. If no stored Data matches, reports
-    /// whether there is a want with the command's name and CanBePrefix flag.
+    /// whether there is a want with the Name and the CanBePrefix flag in the command's parameters.
     Check,
 }
 

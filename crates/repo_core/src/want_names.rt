@@ -7,7 +7,7 @@ use ndn_names::{Name, NameBuf};
 use ndn_tlv::Memory;
 use std::alloc::Global;
 
-/// Two copies of a name: the key of a want (a pending insert), and the name of the Interest to
+/// Two copies of a name: one for the key of a want (a pending insert), one for the Interest to
 /// send.
 #[derive(Drop)]
 pub struct Names {
