@@ -46,8 +46,8 @@ signature_read name text value first second from from_info outer there info h =
     let same : from_info ≡ h.from_info = some_is from_info h.from_info (sym info ∙ info_read name text value first second from outer there h) in
     ap (from_first 46) same ∙ cut_read 46 h.from_info h.to_signature h.from_signature h.signature
 
--- if `from` is `to_info ++ to_signature ++ from_signature`, then `from` without its last `length
--- from_signature` octets is `to_info ++ to_signature`
+-- if `from` is `to_info ++ to_signature ++ from_signature`, then removing the last
+-- `length from_signature` octets of `from` leaves `to_info ++ to_signature`
 pub between : (from to_info from_info to_signature from_signature : List ℕ) → from ≡ to_info ++ from_info → from_info ≡ to_signature ++ from_signature
     → take (length from - length from_signature) from ≡ to_info ++ to_signature
 between from to_info from_info to_signature from_signature info signature =
@@ -434,7 +434,7 @@ value_at text i s first second h signed c =
     let same : s.value ≡ b.value = first_value 46 (early ++ later) b.early [] b.late s.value b.value others b.others are in
     (b.after, b.from_is ∙ ap (λ (v : List ℕ). element (46, v) ++ b.after) (sym same))
 
--- `from_parameters` returns the first ApplicationParameters and all fields after it
+-- `from_parameters` returns the list of fields from the first ApplicationParameters on
 from_met : (front back : List Field) (value : List ℕ) → Others 36 front → from_parameters (front ++ (36, value) ∷ back) ≡ (36, value) ∷ back
 from_met [] back value others = refl
 from_met (e ∷ front) back value others = rw (ne_eqb e.0 36 others.0) (from_met front back value others.1)

@@ -79,8 +79,8 @@ module _ (P : ℕ → Type 0) (kind : ℕ) (later : List ℕ) (m : IsMark P kind
 
 -- ---- a reader that waits for the field of a type
 
--- the reader `fields` has passed no element of type `kind` yet, and a field of this type may still
--- come
+-- the reader `fields` has passed no element of type `kind` in `text` yet, and a field of this type
+-- may still come
 pub record Awaits (P : ℕ → Type 0) (kind : ℕ) (later text : List ℕ) (fields : FieldReader) : Type 0 where
   pub ahead : Ahead P kind later fields.schema.now
   pub left : from_first kind text ≡ from_first kind fields.rest.now

@@ -77,7 +77,7 @@ before_is before later front between kind k around is =
     let apart = following_all (λ j. Lacks j (kind ∷ later)) front (k ∷ between) (subst (AllByRecursion (λ j. Lacks j (kind ∷ later))) is around.apart) in
     (apart.0, record { apart = apart.1; near = λ follows. absurd (not_nothing front between k (sym is ∙ around.near follows)) })
 
--- ---- the first element of a type that is followed only by types that need the previous field
+-- ---- the first element of a type, if all later types in the schema need the previous field
 
 abbrev pub AllNeedPrevious : List ℕ → Type 0
 AllNeedPrevious kinds = AllByRecursion (λ k. needs_previous_field k ≡ true) kinds

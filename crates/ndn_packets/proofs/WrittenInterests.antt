@@ -122,7 +122,7 @@ is_octet (Some n) = (n, refl, refl)
 interest_types : AllByRecursion IsType interest_schema
 interest_types = search rules
 
--- `later` are the valid fields of the Interest `i` from the ApplicationParameters on
+-- `later` are the fields of the Interest `i` from the ApplicationParameters on; they are valid
 record Ends (i : PlainInterest) (later : List Field) : Type 0 where
   info : Option (List ℕ)
   value : Option (List ℕ)

@@ -1,5 +1,5 @@
--- A written link packet is in the grammar if it contains an Interest, or a Data but no Nack.
--- Reading the link packet returns the written packet, PIT token and Nack.
+-- A written link packet is in the grammar if it contains an Interest, with or without a Nack, or a
+-- Data without a Nack. Reading the link packet returns the written packet, PIT token and Nack.
 use Rattle.std.proofs.Common.{rules, ◌≡◌, ℕ, ◌+◌, ◌^◌, ◌<◌, ◌≤◌, List, [], ◌∷◌, ◌++◌, length, Option, Some, None, Ok, refl, arith, inl, inr}
 use Rattle.std.specs.Prelude.{IfSome}
 use Rattle.std.specs.Option.{option_map}

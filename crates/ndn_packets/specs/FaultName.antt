@@ -1,4 +1,4 @@
--- The names of faults, as scripts and the client print them.
+-- The names of faults, as programs print them.
 use Rattle.std.specs.Prelude.{ℕ, List, codes}
 use Rattle.ndn_tlv.specs.declared.fault.TlvFault.TheVariants as tlv
 use Rattle.ndn_packets.specs.declared.fault.PacketFault.{PacketFault}

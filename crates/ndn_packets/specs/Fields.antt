@@ -1,5 +1,5 @@
 -- Which elements of a list are the fields of a schema (NDN Packet Format 0.3, "Considerations for
--- Evolvability of TLV-Based Encoding"). This profile chooses which elements are ignored inside a
+-- Evolvability of TLV-Based Encoding"). This crate chooses which elements are ignored inside a
 -- MetaInfo and a SignatureInfo.
 use Rattle.std.specs.Prelude.{◌≡◌, ◌≢◌, ℕ, ◌⊎◌, ◌%◌, List, [], ◌∷◌, ◌++◌, Bool, true, nat_le, ◌==◌, ◌&&◌, ◌||◌}
 use Rattle.std.specs.List.{AllByRecursion}

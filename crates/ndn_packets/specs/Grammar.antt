@@ -1,5 +1,5 @@
--- The packets of this profile, as complete octet sequences (NDN Packet Format 0.3, "Interest
--- Packet" and "Data Packet").
+-- The packets that this crate accepts, as complete octet sequences (NDN Packet Format 0.3,
+-- "Interest Packet" and "Data Packet").
 use Rattle.std.specs.Prelude.{◌≡◌, ◌≢◌, ℕ, ◌<◌, ◌≤◌, List, [], ◌∷◌, ◌++◌, length, Option, None, Some, Bool, unwrap_or, slice_index, flat_map, ◌==◌, if◌then◌else◌}
 use Rattle.ndn_tlv.specs.Number.{IsNni}
 use Rattle.sha2.specs.Sha256.{sha256}
@@ -92,7 +92,8 @@ pub record IsSignatureInfo (text : List ℕ) (s : PlainSignatureInfo) : Type 0 w
   pub time : IsNumber time_value s.time
   pub seq : IsNumber seq_value s.seq
 
--- the elements from the first ApplicationParameters to the end of the packet
+-- the elements from the first ApplicationParameters to the end of the packet; the empty list if
+-- there are no ApplicationParameters
 abbrev pub from_parameters : List Field → List Field
 from_parameters [] = []
 from_parameters (e ∷ elements) =

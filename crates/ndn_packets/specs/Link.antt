@@ -10,7 +10,7 @@ use Rattle.ndn_packets.specs.Fields.{Fields, is_even_high}
 use Rattle.ndn_packets.specs.Grammar.{IsNumber, IsInterest, IsData}
 use Rattle.ndn_packets.specs.declared.types.TheConstants.{FRAGMENT, FRAG_COUNT, FRAG_INDEX, LINK_PACKET, NACK, NACK_REASON, PIT_TOKEN, SEQUENCE}
 
--- the types of the header fields that this profile knows: Sequence, FragIndex, FragCount, PitToken
+-- the types of the header fields that this crate knows: Sequence, FragIndex, FragCount, PitToken
 -- and Nack
 abbrev pub known_headers : List ℕ
 known_headers = SEQUENCE ∷ FRAG_INDEX ∷ FRAG_COUNT ∷ PIT_TOKEN ∷ NACK ∷ []

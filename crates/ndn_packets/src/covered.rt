@@ -107,7 +107,7 @@ pub fn signed_packets_have_covered_octets()
         → EndsAtSignature i.name s.value text first second }
 {}
 
-/// Law: the octets that the signature of a packet covers are unique.
+/// Law: a packet determines the two parts that its signature covers.
 pub fn covered_octets_have_one_reading()
     ensures { (packet : PlainFrame) (first second other_first other_second : List ℕ)
         → Covered packet first second → Covered packet other_first other_second

@@ -1,25 +1,24 @@
 use ndn_tlv::{Memory, TlvFault};
 use thiserror::Error;
 
-/// Why octets are not a frame of this profile: the first fault from the left (NDN Packet Format
-/// 0.3, "Interest Packet" and "Data Packet"; NDNLPv2, "Packet Format").
+/// Why octets are not a frame that this crate accepts: the first fault from the left (NDN Packet
+/// Format 0.3, "Interest Packet" and "Data Packet"; NDNLPv2, "Packet Format").
 ///
 /// If several faults apply, the first in the following order is reported: `TooLong` for more than
-/// 9,000 octets, a fault of the outer element, octets after the outer element, the type of the
+/// 9,000 octets, a fault of the outer element, octets after the outer element, a wrong type of the
 /// outer element, `TooLong` for more than 8,800 octets, a fault of the Name, the faults of the
 /// later elements in order, a missing field, and last a fault of the digest of an Interest's
 /// parameters. If several faults of one element apply, `Tlv` is reported before `CriticalUnknown`,
 /// and `CriticalUnknown` before a fault in the element's value. `Tlv` never contains `BadInteger`.
 /// In the value of a MetaInfo, a SignatureInfo or an InterestSignatureInfo, the first fault among
 /// the elements of this value is reported. A missing SignatureType is reported after all other
-/// faults of a SignatureInfo. If several faults of one header field of a link packet apply, `Tlv`
-/// is reported before `LpField`, and `LpField` before a fault in the field's value. In the value of
-/// a Nack, the first fault among the elements of this value is reported. In the value of a
-/// Fragment, the first fault of the packet is reported, beginning with the outer element of the
-/// packet.
+/// faults of the same value. If several faults of one header field of a link packet apply, `Tlv` is
+/// reported before `LpField`, and `LpField` before a fault in the field's value. In the value of a
+/// Nack, the first fault among the elements of this value is reported. In the value of a Fragment,
+/// the first fault of the packet is reported, beginning with the outer element of the packet.
 #[derive(Clone, Copy, Debug, PartialEq, Eq, Error)]
 pub enum PacketFault {
-    /// An element cannot be read, whether or not this profile knows its type.
+    /// An element cannot be read, whether or not this crate knows its type.
     #[error("{0}")]
     Tlv(TlvFault),
     /// A packet does not begin with a Name, or the Name of an Interest is empty.
@@ -55,7 +54,7 @@ pub enum PacketFault {
     /// 1.
     #[error("the packet is one of several fragments")]
     Fragmented,
-    /// A header field that this profile knows comes twice in a link packet, or an element follows
+    /// A header field that this crate knows comes twice in a link packet, or an element follows
     /// the Fragment, or a PitToken does not have 1 to 32 octets. `LpField` is also the fault of an
     /// unknown header field whose type is outside 800 to 959, or is not divisible by 4.
     #[error("the link packet has a header field that it may not have")]
@@ -69,7 +68,7 @@ impl PacketFault {
     ghost use Rattle.std.specs.Prelude.{◌≡◌};
     ghost use Rattle.ndn_packets.specs.FaultName.{packet_name};
 
-    /// Returns the name of the fault, as scripts and the client print it. For a fault `Tlv`, the
+    /// Returns the name of the fault, as the node and the client print it. For a fault `Tlv`, the
     /// result is `Tlv`, a space and the name of the contained `TlvFault`.
     pub fn name(self) -> &'static str
         ensures { result.now ≡ packet_name self }

@@ -46,7 +46,8 @@ pub fn element_len(kind: u32, value_len: usize) -> usize
     header_len.saturating_add(value_len)
 }
 
-/// Returns the length of an optional field in octets, or `usize::MAX` if the length is greater.
+/// Returns the length of an optional field in octets, or 0 if `value` is `None`. If the length is
+/// greater than `usize::MAX`, returns `usize::MAX`.
 #[inline(always)]
 pub fn optional_len(kind: u32, value: Option<&[u8]>) -> usize
     ensures len { IsLength result (octets (optional kind (option_map (λ v. v.now) value.entry))) }
@@ -58,7 +59,7 @@ pub fn optional_len(kind: u32, value: Option<&[u8]>) -> usize
     }
 }
 
-/// Returns the length of an optional NonNegativeInteger field in octets.
+/// Returns the length of an optional NonNegativeInteger field in octets, or 0 if `asked` is `None`.
 #[inline(always)]
 pub fn number_field_len(kind: u32, asked: Option<u64>) -> usize
     ensures exact { result ≡ length (octets (number kind asked)) }

@@ -32,7 +32,7 @@ pub enum Frame<'a> {
         /// The Interest that the Nack refuses.
         interest: Interest<'a>,
     },
-    /// A link packet without a Fragment.
+    /// A link packet with neither a Fragment nor a Nack.
     Idle,
 }
 
@@ -52,12 +52,13 @@ pub const MAX_FRAME: usize = 9000;
 /// The greatest length of an Interest or a Data, in octets.
 pub const MAX_PACKET: usize = 8800;
 
-/// Reads a frame (NDN Packet Format 0.3, "Interest Packet" and "Data Packet"; NDNLPv2, "Packet
-/// Format"): one Interest or one Data of this profile, or a link packet. The fields of a packet
-/// must be in the order of the standard. The header fields of a link packet may be in any order.
+/// Reads a frame: one Interest, one Data, or a link packet (NDN Packet Format 0.3, "Interest
+/// Packet" and "Data Packet"; NDNLPv2, "Packet Format"). The fields of an Interest or a Data must
+/// be in the order of the standard. The header fields of a link packet may be in any order.
 /// Elements that are not fields are ignored if their types allow it. The digest of an Interest's
 /// ApplicationParameters must be correct. A frame has at most 9,000 octets, and a packet at most
-/// 8,800. The received octets of a packet are its own element, without the link packet around it.
+/// 8,800. The field `whole` of a packet has the packet's own element, without the link packet
+/// around the element.
 ///
 /// If the octets are not a frame, returns the first fault from the left: see `PacketFault`.
 /// Signatures are not verified. A PIT token is checked but not returned: `read_lp` returns it.
@@ -140,8 +141,8 @@ fn framed_of(octets: &[u8]) -> Result<Framed<'_>, PacketFault>
     }
 }
 
-/// Returns the element if the octets are exactly one element. Returns `BadField` if octets follow
-/// the element.
+/// Returns the element if the octets are exactly one element. Returns `Tlv` if no element can be
+/// read, and `BadField` if octets follow the element.
 #[inline(always)]
 pub(crate) fn only_element(octets: &[u8]) -> Result<Element<'_>, PacketFault>
     ensures exact { on_result (λ e. Ok (e.kind, e.value.now)) Err result ≡ only_element octets.now }

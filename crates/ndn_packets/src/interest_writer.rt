@@ -67,8 +67,8 @@ impl InterestWriter<'_> {
     ghost use Rattle.ndn_tlv.specs.Element.{element};
 
     #[tactic(auto, using(crate::proofs::WrittenInterests::interest_reads_back))]
-    /// Appends the Interest with only the requested fields, in the standard's order and in their
-    /// shortest forms.
+    /// Appends the Interest with only the requested fields and the fields that a signature needs.
+    /// The fields are in the standard's order and in their shortest forms.
     ///
     /// If the Interest cannot be written, returns the first fault in the order of `WriteFault` and
     /// appends nothing.
@@ -373,7 +373,8 @@ fn flag_len(kind: u32, set: bool) -> usize
     if set { element_len(kind, 0) } else { 0 }
 }
 
-/// Returns the length in octets of an optional field whose value is one octet.
+/// Returns the length in octets of an optional field whose value is one octet, or 0 if `octet` is
+/// `None`.
 #[inline(always)]
 fn octet_field_len(kind: u32, octet: Option<u8>) -> usize
     ensures len { IsLength result (octets (optional kind (option_map (λ n. n ∷ []) octet))) }

@@ -42,7 +42,8 @@ pub struct Signature<'a> {
     pub time: Option<u64>,
     /// The SignatureSeqNum.
     pub seq: Option<u64>,
-    /// The value of the SignatureValue, of any length, possibly empty.
+    /// The value of the SignatureValue or of the InterestSignatureValue, of any length, possibly
+    /// empty.
     pub value: &'a [u8],
 }
 

@@ -63,8 +63,7 @@ pub const VALIDITY_PERIOD: u32 = 253;
 /// The type of the element that a KeyLocator may have instead of a Name.
 pub const KEY_DIGEST: u32 = 29;
 
-/// The types of a link packet and of the fields that this profile knows (NDNLPv2, "Packet
-/// Format").
+/// The types of a link packet and of the fields that this crate knows (NDNLPv2, "Packet Format").
 pub const LINK_PACKET: u32 = 100;
 
 pub const FRAGMENT: u32 = 80;
