@@ -207,8 +207,9 @@ written_fits w space none most = by (is_bad_name (components w.name)) (nat_lt 64
     by false false true is none = absurd cc
     by false false false is none = grind (arith, nat_tests, is, most)
 
--- If `reply` is the repository's reply to a command, and the new node has the effect of this
--- command, then the command was carried out.
+-- Let `reply` be the repository's reply to a command. Let the new policy be the old policy after
+-- the command took effect and was recorded, and let the pending Interests and the cache be
+-- unchanged. Then the command was carried out.
 pub repository_done : (was new : NodeState) (face : ℕ) (token : Token) (i : PlainInterest) (reply : RepoReply) → reply ≡ repository_reply was.policy i
     → new.policy ≡ with_record (after_repository was.policy i) (recorded_of i) → new.pending ≡ was.pending → new.cache ≡ was.cache
     → IsCommanded was face token i ForRepository reply.status (replied face token i (repository_content reply) ∷ fetch_sends was.policy i.nonce reply.fetch) new

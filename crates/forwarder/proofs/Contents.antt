@@ -401,8 +401,8 @@ module _ (token packet : List ℕ) (is : IsToken token) (small : length (wrapped
       next_element (98, token) after_token first
       ∙ ap (λ (l : List (Result Field TlvFault)). Ok (98, token) ∷ l) (next_element (80, packet) [] second ∙ ap (λ (l : List (Result Field TlvFault)). Ok (80, packet) ∷ l) elements_of-nil)
 
-  -- reading a link packet with a token around `packet` has the same result as reading `packet` as
-  -- one element that is an Interest or a Data
+  -- reading a link packet that has a token and contains `packet` has the same result as reading
+  -- `packet` as one element that is an Interest or a Data
   pub wrapped_is : frame_at (wrapped token packet) ≡ (((only_element packet >>= packet_of packet) >>= λ f. Ok (framed_with (Some token) f)) >>= λ f. Ok f.frame)
   wrapped_is =
       let few = value_short in

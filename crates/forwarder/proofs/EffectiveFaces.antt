@@ -15,7 +15,7 @@ use Rattle.pit_fib.specs.Fib.{Entry, LeadsTo, Routes, entry_at, no_entry}
 use Rattle.pit_fib.specs.Route.{is_child_inherit, route_cmp-total}
 use Rattle.pit_fib.specs.Tables.{ByFace}
 
--- ---- an entry in the list of a map is found in the map
+-- ---- the key of each entry of a map is found in the map
 
 module _ {K X : Type 0} {R : K → K → Ordering} (order : IsTotalOrder R) where
   here_or_later : (b : Bool) (x : X) (o : Option X) → IsSome o → IsSome (cond b (Some x) o)
@@ -141,7 +141,7 @@ module _ (routes : Routes) where
         | false ↦ rest
       ]
 
-  -- Each face in the costs of the longest prefix of `name` that has an entry is the face of a next
-  -- hop or of a route.
+  -- Take the longest prefix of `name` that has an entry. Each face in the costs of this prefix is
+  -- the face of a next hop or of a route.
   pub longest_leads : (name : List Field) → AllLead (longest_costs routes name (length name))
   longest_leads name = longest_lead name (length name)

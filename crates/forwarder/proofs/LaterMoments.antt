@@ -1,7 +1,8 @@
--- After a run that began at the moment 0, the time of the policy is the greatest moment of the run.
--- The rules and keys of the policy are those of the latest event that brought rules and keys, if
--- there is one. The repository's prefix never changes. Advancing time to two moments, one after the
--- other, has the effect of advancing time to the later moment.
+-- After a run that starts from a policy with the time 0, the time of the policy is the greatest
+-- moment of the run's events, or 0 if there are none. The rules and keys of the policy are those of
+-- the latest event that brought rules and keys, if there is one. The repository's prefix never
+-- changes. Advancing time to two moments, one after the other, has the effect of advancing time to
+-- the later moment.
 use Rattle.std.proofs.Common.{◌≡◌, ◌⊎◌, inl, inr, ℕ, ◌+◌, ◌-◌, ◌^◌, ◌≤◌, Bool, true, false, cond, arith, List, [], ◌∷◌, ◌++◌, refl, sym, ap, subst, ◌∙◌, Result, Ok, Err}
 use Rattle.std.proofs.lemmas.Bool.Decides.{nat_tests}
 use Rattle.std.specs.Prelude.{Option, Some, None, max, min, nat_lt, if◌then◌else◌}

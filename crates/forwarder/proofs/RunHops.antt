@@ -1,5 +1,6 @@
--- Let no key book have two keys of the same name, and let a run begin without routes. Then the
--- events and answers of the run determine the next hops and the registered routes after the run.
+-- Let no key book have two keys of the same name, and let a valid run start from a policy that has
+-- the time 0, no next hops and no routes. Then the events and answers of the run determine the next
+-- hops and the registered routes after the run.
 use Rattle.std.proofs.Common.{◌≡◌, ℕ, Bool, true, false, cond, List, refl, ap, subst, ◌∙◌, Result, Ok, Err}
 use Rattle.std.specs.Prelude.{Option, Some, None, max, nat_le, option_and_then, ◌==◌, ◌&&◌}
 use Rattle.std.specs.Ordering.{eq_by_cmp}

@@ -52,7 +52,7 @@ pub has_numbers : (face : ℕ) (faces : List FaceEntry) → has_face face (numbe
 has_numbers face [] = refl
 has_numbers face (entry ∷ faces) = ap (λ (b : Bool). (entry.0 == face) || b) (has_numbers face faces)
 
--- ---- the faces to which causes and sends add records
+-- ---- the faces to which causes add records, and the faces to which sends go
 
 -- each face to which the causes may add a record has the property `P`
 abbrev AddOnly : (ℕ → Type 0) → List Cause → Type 0

@@ -24,7 +24,7 @@ pub data CacheUse : Type 0 where
   -- an allowed command erases the Data under a name, at most `count` of them if `count` is given
   Erases : (name : List Field) (count : Option ℕ) → CacheUse
 
--- the Data `d` with the octets `whole`, as it is cached if it arrived at the moment `now`
+-- the cached form of the Data `d` with the octets `whole`, which arrived at the moment `now`
 abbrev pub held_from : ℕ → List ℕ → PlainData → CachedData
 held_from now whole d = record {
   name = d.name;

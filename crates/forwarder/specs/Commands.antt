@@ -202,8 +202,8 @@ IsDenial p face token (AData whole d) decided.NoRule answer =
 IsDenial p face token (ANack reason whole i) decision answer = ⊥
 IsDenial p face token Idle decision answer = ⊥
 
--- Recording the signer, the SignatureTime and the SignatureSeqNum of an allowed command in the
--- guard of the policy `p` gives this policy. With None, nothing is recorded, and the result is `p`.
+-- The policy `p` after the signer, the SignatureTime and the SignatureSeqNum of an allowed command
+-- are recorded in the guard of `p`. With None, nothing is recorded, and the result is `p`.
 abbrev pub with_record : Policy → Option Recorded → Policy
 with_record p None = p
 with_record p (Some r) = record p { guard = with_recorded p.guard r }

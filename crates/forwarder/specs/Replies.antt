@@ -58,8 +58,8 @@ interest_loop face token whole = record {
 abbrev pub content_store_hit : ℕ → Token → List ℕ → Answer
 content_store_hit face token octets = passed (sent_back face token octets ∷ [])
 
--- Outgoing Interest: the Interest is sent to each of these faces without a token; but if its key
--- has no in-record and the PIT is full, the Interest is dropped
+-- Outgoing Interest: if the Interest's key has no in-record and the PIT is full, the Interest is
+-- dropped; otherwise the Interest is sent, without a token, to each of these faces
 abbrev pub outgoing_interest : Seen → PlainKey → List ℕ → PlainInterest → List ℕ → Answer
 outgoing_interest seen key whole i faces =
     if not (is_alive (seen.records key)) && seen.is_full then dropped PitFull

@@ -81,7 +81,7 @@ list_of_kind kind i =
     then list_after kind i.can_be_prefix (drop (length (list_name kind)) i.name)
     else None
 
--- the segment of a list that an Interest asks for, or None if the Interest asks for no list
+-- the request of an Interest for a segment of a list, or None if the Interest asks for no list
 abbrev pub list_asked : PlainInterest → Option ListAsked
 list_asked i = option_or (list_of_kind RouteList i) (list_of_kind StrategyList i)
 
@@ -97,8 +97,8 @@ pub data Request : Type 0 where
   ForRepository : Request
   ForData : Request
 
--- the request of an Interest that is not refused, given the segment of a list that the Interest
--- asks for, if any
+-- The request of an Interest that is not refused. The last argument is the Interest's request for a
+-- segment of a list, or None if the Interest asks for no list.
 abbrev pub named_request : Policy → PlainInterest → Option ListAsked → Request
 named_request p i (Some asked) = ForList asked
 named_request p i None =

@@ -1,6 +1,6 @@
--- Runs of events and answers, and what the past of a run determines. The definitions in this file
--- do not use timers or the contents of a cache. Of a PIT, they use only the number of keys with
--- records. The one exception is `Stands`, which compares a node with a run.
+-- Runs of events and answers, and what a run determines. The definitions in this file do not use
+-- the PIT or the cache of a node. The one exception is `Stands`, which compares the policy, the PIT
+-- and the cache of a node with a run.
 use Rattle.std.specs.Prelude.{◌≡◌, ◌⊎◌, ℕ, Bool, true, false, List, [], ◌∷◌, ◌++◌, Option, None, Some, All, Result, Ok, Err, max, nat_le, ⊤}
 use Rattle.std.specs.FinMap as map
 use Rattle.hmac_keys.specs.KeyFile.{AreApart, NamedKey}

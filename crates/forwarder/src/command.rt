@@ -122,7 +122,8 @@ impl State {
     }
 
     /// Answers and records an allowed command whose name or parameters cannot be read. Advances
-    /// time, and increases the version of the lists by 1, up to the greatest u64.
+    /// time, and increases the version of the lists of routes and strategies by 1, up to the
+    /// greatest u64.
     fn command_unread(
         &mut self,
         arrived: &Arrived<'_, Interest<'_>>,
@@ -149,8 +150,8 @@ impl State {
     }
 
     /// Reserves the memory that the command may need, and advances time. Then applies, answers and
-    /// records the command, and increases the version of the lists by 1, up to the greatest u64.
-    /// Returns the status of the reply.
+    /// records the command, and increases the version of the lists of routes and strategies by 1,
+    /// up to the greatest u64. Returns the status of the reply.
     fn command_read(
         &mut self,
         arrived: &Arrived<'_, Interest<'_>>,

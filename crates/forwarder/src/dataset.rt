@@ -28,10 +28,10 @@ use std::alloc::Global;
 /// The FreshnessPeriod of a segment, in milliseconds.
 const FRESHNESS: u64 = 1000;
 
-/// Returns the Data of the requested segment (NFD Management, "Status Dataset"). `table_number` is
-/// the version of the lists after the routes that expire by `now` are removed. Returns `None` if a
-/// version other than `table_number` is requested, or if the list has no segment with the requested
-/// number.
+/// Returns the requested segment as an encoded Data (NFD Management, "Status Dataset").
+/// `table_number` is the version of the lists of routes and strategies after the routes that expire
+/// by `now` are removed. Returns `None` if a version other than `table_number` is requested, or if
+/// the list has no segment with the requested number.
 pub(crate) fn list_segment(
     alloc: Global,
     tables: &Tables,
@@ -126,9 +126,9 @@ fn append_number(alloc: Global, name: &mut NameBuf, kind: u16, number: u64) -> R
     name.append(kind, &value).map_err(|_| Memory)
 }
 
-/// Returns a segment as a Data that is signed with DigestSha256. The FinalBlockId of the Data
-/// contains the number of the last segment. Fails only if memory runs out, since the Data is never
-/// too long to be encoded.
+/// Returns an encoded Data with this name and content, signed with DigestSha256. The FinalBlockId
+/// of the Data contains the number `last` of the last segment. Fails only if memory runs out, since
+/// the Data is never too long to be encoded.
 fn segment_data<'a>(
     alloc: Global,
     name: Name<'a>,

@@ -37,8 +37,8 @@ impl State {
     }
 
     /// Advances time to `now`. Then, if the face is open, closes the face, removes the face's next
-    /// hops, routes, in-records and out-records, and increases the version of the lists by 1, up to
-    /// the greatest u64.
+    /// hops, routes, in-records and out-records, and increases the version of the lists of routes
+    /// and strategies by 1, up to the greatest u64.
     pub fn close(&mut self, face: u64, now: u64) -> Verdict
         requires { IsSound (state_of self.old) }
         ensures { IsStep (state_of self.old) (FaceDown face now)

@@ -86,8 +86,8 @@ impl State {
     }
 
     /// Answers an Interest with a Data from the cache (NFD Developer's Guide, "Content Store Hit
-    /// Pipeline"), or with a Nack if the Interest loops. `place` is the position of the Data in the
-    /// cache, as `Store::place_for` returned it.
+    /// Pipeline"), or with a Nack if the Interest loops. `place` is the position that
+    /// `Store::place_for` returned for the Interest's key.
     fn serve_cached(
         &mut self,
         arrived: &Arrived<'_, Interest<'_>>,

@@ -156,9 +156,9 @@ pub fn keys_stay_apart()
 /// Law: the rules and keys in force after a run are those of the last event of the run that brought
 /// rules and keys. If no event of the run brought rules and keys, the rules and keys from before
 /// the run are still in force. The clauses of this law do not mention the event after the run. If
-/// that event brings a Data or a command that is not dropped, `IsDecidedAs` states how the rules
-/// and keys in force after the run decide this packet. By `IsDecidedAs`, a command that is not
-/// fresh is denied even if the rules allow it.
+/// that event brings a Data or a command, and this packet is not dropped, `IsDecidedAs` states how
+/// the rules and keys in force after the run decide the packet. By `IsDecidedAs`, a command that is
+/// not fresh is denied even if the rules allow it.
 pub fn rules_in_force()
     ensures last { (first p : Policy) (past : Run) (rules : List PlainRule) (keys : List NamedKey)
         → IsPolicyOf first past p → AreLastRules past rules keys

@@ -83,7 +83,7 @@ impl ListKind {
         }
     }
 
-    /// Returns the octets of the list's name.
+    /// Returns the encoded components of the list's name.
     fn octets(self) -> &'static [u8]
         ensures { IsNameValue result.now (list_name self) }
     {
@@ -175,8 +175,8 @@ fn versioned(kind: ListKind, segment: u64, version: Component<'_>) -> Option<Lis
     })
 }
 
-/// Returns the segment that an Interest asks for, or `None` if the Interest does not ask for a list
-/// of this kind.
+/// Returns the request of an Interest for a segment of a list of this kind, or `None` if the
+/// Interest does not ask for such a list.
 fn list_of_kind(kind: ListKind, interest: &Interest<'_>) -> Option<ListAsked>
     ensures { result ≡ list_of_kind kind (plain_interest interest.now) }
 {
@@ -187,8 +187,8 @@ fn list_of_kind(kind: ListKind, interest: &Interest<'_>) -> Option<ListAsked>
     }
 }
 
-/// Returns the segment that an Interest asks for, or `None` if the Interest does not ask for a
-/// list.
+/// Returns the request of an Interest for a segment of a list, or `None` if the Interest does not
+/// ask for a list.
 pub(crate) fn list_asked(interest: &Interest<'_>) -> Option<ListAsked>
     ensures { result ≡ list_asked (plain_interest interest.now) }
 {

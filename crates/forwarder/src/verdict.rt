@@ -16,8 +16,8 @@ pub enum Verdict {
     Denied(Kind, RuleNo, Reason),
     /// No rule applies to the command or Data, which is denied.
     NoRule(Kind),
-    /// The event had no effect, except that time advanced to its moment, and that a Nack was sent
-    /// back if the reason is `Loop`.
+    /// The event had no effect, except that time advanced to the event's moment, and that a Nack
+    /// was sent back if the reason is `Loop`.
     Dropped(DropReason),
 }
 
