@@ -30,9 +30,9 @@ pub fn last_rules<R: BufRead>(alloc: Global, reader: &mut R) -> Result<Option<Ve
     Err(ReplayFault::Read)
 }
 
-/// Returns whether the last whole line of new rules in a journal has the octets `rules` of a rule
-/// file and the octets `keys` of a key file. Returns `false` if no whole line has new rules. The
-/// fault is `Read` or `Memory`.
+/// Returns whether the last whole line of new rules in a journal has, in lower-case hexadecimal,
+/// the octets `rules` of a rule file and the octets `keys` of a key file. Returns `false` if no
+/// whole line has new rules. The fault is `Read` or `Memory`.
 pub fn are_last_rules<R: BufRead>(
     alloc: Global,
     reader: &mut R,

@@ -1,5 +1,5 @@
-//! Shorter journals: which lines of a journal a node needs to restore the tables that the whole
-//! journal restores, and the text of these lines.
+//! Shorter journals: the choice of those lines of a journal from which a node restores the same
+//! tables as from the whole journal, and the text of these lines.
 #![tactic(auto)]
 
 mod comparing;

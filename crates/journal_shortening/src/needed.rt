@@ -11,20 +11,20 @@ use ndn_tlv::Memory;
 use node_core::cut_line;
 use std::alloc::Global;
 
-/// Which lines of a journal a shorter journal keeps.
+/// The lines that a shorter journal keeps, and the time in its line `tick`.
 #[derive(Debug, Drop)]
 pub struct Needed {
     /// One flag for each whole line of the journal: whether the line is needed.
     pub lines: Vec<bool>,
-    /// The node's time after the last line, in milliseconds since 1970.
+    /// The time of the node after the replay of the journal, in milliseconds since 1970.
     pub moment: u64,
 }
 
 /// Replays the whole lines of a journal on a node that has not handled any event, and surveys the
-/// lines (`Survey`). Returns the lines that, according to the survey, are needed to restore the
-/// tables that the whole journal restores.
+/// lines (`Survey`). Returns which lines, according to the survey, are needed to restore the tables
+/// that the whole journal restores, and the node's time after the replay.
 ///
-/// No contract states that the returned lines alone restore these tables. The function
+/// No contract states that the needed lines alone restore these tables. The function
 /// `restores_same_tables` compares the tables that two journals restore.
 pub fn needed_lines(
     alloc: Global,
@@ -39,8 +39,8 @@ pub fn needed_lines(
     }
 }
 
-/// Returns the lines that, according to the survey, are needed to restore the tables as they are at
-/// the time `now`.
+/// Returns which lines, according to the survey, are needed to restore the tables as they are at
+/// the time `now`, together with this time.
 fn needed_by(survey: &mut Survey, now: u64) -> Result<Needed, ShortenFault> {
     survey.links.sort_unstable();
     let mut reach = Reach::new(survey.alloc, survey.count)?;

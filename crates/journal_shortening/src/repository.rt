@@ -37,8 +37,8 @@ impl Survey {
         }
     }
 
-    /// Notes that an insert is waiting for its Data. If there already is a want with the same name
-    /// and CanBePrefix, the insert ends that want.
+    /// Notes that an insert is waiting for its Data. If there already is a want with the name and
+    /// the CanBePrefix of `asked`, the insert replaces that want.
     fn note_want(&mut self, at: Place, asked: &Asked<'_>) -> Result<(), Memory> {
         self.end_want(at.line, asked)?;
         let name = NameBuf::from_name(self.alloc, asked.name)?;
@@ -92,7 +92,7 @@ impl Survey {
     }
 
     /// Notes that a delete removed the objects that answer the delete. If there was a want with the
-    /// same name and CanBePrefix, also notes that the delete ended this want.
+    /// name and the CanBePrefix of `asked`, also notes that the delete ended this want.
     fn note_delete(&mut self, line: u32, asked: &Asked<'_>) -> Result<(), Memory> {
         self.end_want(line, asked)?;
         let start = key_of(self.alloc, Kind::Object, &[], asked.name.as_octets())?;
@@ -143,14 +143,14 @@ fn asked_by(name: Name<'_>) -> Option<Asked<'_>> {
     command_in(name.prefix(start), name)
 }
 
-/// Returns whether a want has the name and the CanBePrefix of a command.
+/// Returns whether a want has the name and the CanBePrefix in the parameters of a command.
 fn is_equal(want: &Want, asked: &Asked<'_>) -> bool {
     want.can_be_prefix == asked.can_be_prefix
         && want.name.view().as_octets() == asked.name.as_octets()
 }
 
 /// Returns whether the object with this full name answers the command. The full name must begin
-/// with the name in the command.
+/// with the name in the command's parameters.
 fn is_answer(full_name: &[u8], asked: &Asked<'_>) -> bool {
     let len = asked.name.as_octets().len();
     asked.can_be_prefix

@@ -26,9 +26,9 @@ pub struct ShorterJournal {
     pub kept: usize,
 }
 
-/// Shortens the journal of a node whose repository has the prefix `repo`. Returns `None` if leaving
-/// out lines would not make the journal shorter, or if the shorter journal would not restore the
-/// same tables, rules and keys. Octets after the last LF are left out.
+/// Shortens the journal of a node whose repository has the prefix `repo`. Returns `None` if the
+/// needed lines and a line `tick` together are not shorter than the whole journal, or do not
+/// restore the same tables, rules and keys. Octets after the last LF are left out.
 pub fn shortened(
     alloc: Global,
     repo: &NameBuf,

@@ -18,7 +18,7 @@ pub enum Kind {
     Route = 4,
     /// The strategy of a name.
     Strategy = 5,
-    /// The stored Data with a full name.
+    /// The stored Data with a given full name.
     Object = 6,
 }
 

@@ -10,7 +10,7 @@ use ndn_tlv::Memory;
 use std::alloc::Global;
 use std::collections::BTreeMap;
 
-/// Where a packet came from: its face, its line, and the node's time after the packet was handled.
+/// The face and the line of a packet, and the node's time after the packet was handled.
 #[derive(Clone, Copy, Debug)]
 pub struct Place {
     pub face: u64,

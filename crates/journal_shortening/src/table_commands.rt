@@ -16,7 +16,7 @@ impl Survey {
         }
     }
 
-    /// Notes that a command set or removed the strategy of its name.
+    /// Notes that a command set or removed the strategy of the name in the command's parameters.
     fn note_strategy(
         &mut self,
         line: u32,

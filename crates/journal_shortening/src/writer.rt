@@ -1,4 +1,4 @@
-/// What a line did to its subject, such as a route or a signer.
+/// What a line did to its subject, such as a route or a signer's greatest time.
 #[derive(Clone, Copy, Debug, PartialEq, Eq)]
 pub enum Effect {
     /// The line removed the subject: for example, a delete removes an object.

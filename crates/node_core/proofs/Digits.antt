@@ -58,7 +58,7 @@ module _ (digits octets : List ℕ) (i high low greatest most value : ℕ) (few 
             ]
       ]
 
--- a text with an octet that is not a digit does not encode octets
+-- a text with an octet that is not a hexadecimal digit does not encode octets
 pub spells_none : (digits spelled : List ℕ) (k : ℕ) → k < length digits → is_hex_digit (slice_index digits k) ≡ false → decode_pairs 0 digits ≡ Ok spelled → ⊥
 spells_none digits spelled k few bad is =
     let good = (decode_pairs-ok 0 digits spelled is).0 k 0 few in cc (bad, good)

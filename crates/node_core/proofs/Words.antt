@@ -166,8 +166,8 @@ up_lacks event a b c u = (rw u.face_is (number-Lacks u.face u.wide.0), rw u.scop
 pub in_lacks : (event : PlainEvent) (a b c : List ℕ) → InWords event a b c → Lacks 32 a × Lacks 32 b
 in_lacks event a b c u = (rw u.face_is (number-Lacks u.face u.wide.0), rw u.now_is (number-Lacks u.now u.wide.1))
 
--- if the text after `up` in an event's line was split at its first two spaces, the three parts
--- are the words of the event
+-- let an event's line be the keyword `up`, a space and `text`; if `text` was split at its first two
+-- spaces, the three parts are the words of the event
 pub up_words : (event : PlainEvent) (text a b c : List ℕ) → Lacks 32 a → Lacks 32 b → text ≡ a ++ (32 ∷ (b ++ (32 ∷ c)))
     → LineSpells event (codes "up" ++ (32 ∷ text)) → UpWords event a b c
 up_words event text a b c la lb is h =

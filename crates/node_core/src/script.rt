@@ -51,9 +51,9 @@ pub enum RunFault {
 /// leading zeros. The HEX of `in` has the octets that arrive on the face. The first HEX of `rules`
 /// has the octets of a rule file, and the second HEX has the octets of a key file. Empty lines and
 /// lines that begin with `#` are skipped. Every line has at most 20,000 octets, not counting its
-/// LF. A line ends with an LF or at the end of the input. If memory runs out for an event, the
-/// answer to the event has `memory` in place of a verdict. An event for which memory runs out has
-/// no effect, except that the cache may have dropped or reordered Data.
+/// LF. A line ends with an LF or at the end of the input. If memory runs out while the node handles
+/// an event, the answer to the event has `memory` in place of a verdict. Such an event has no
+/// effect, except that the cache may have dropped or reordered Data.
 pub fn run_script<R: Read, W: Write>(
     alloc: Global,
     reader: &mut R,
