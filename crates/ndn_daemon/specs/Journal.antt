@@ -1,4 +1,4 @@
--- A node that is restored from a journal, and its turns after that.
+-- A node that is restored from a journal, and the turns that the node then takes.
 use Rattle.std.specs.Prelude.{◌≡◌, ◌↔◌, ℕ, Bool, IsTrue, List, take, Option, None, Some, IfSome, String, ⊤}
 use Rattle.forwarder.specs.Node.{NodeState}
 use Rattle.journal.specs.LastFiles.{HasLastFiles, files_text}

@@ -1,4 +1,4 @@
--- The values of the options, and the faults of texts that are not values.
+-- The values of the options, and the faults of texts that spell no valid value.
 use Rattle.std.specs.Prelude.{◌≡◌, ℕ, ◌<◌, ◌^◌, List, [], Option, None, Some, Result, Ok, Err, String, codes, string_bytes, ⊤}
 use Rattle.std.specs.Str.Parse.{IsNumeral, digits_value}
 use Rattle.clap.specs.declared.parser.matches.ArgMatches.{ArgMatches}

@@ -73,7 +73,8 @@ pub struct EventLog<S: LogSink> {
     since: u64,
     // The number of closed faces that are not yet reported.
     closed: u64,
-    // The total number of dropped datagrams from endpoints that are not peers, as last reported.
+    // The total number of datagrams that were dropped because their endpoints are not peers, as
+    // last reported.
     strangers: u64,
     // The time of the last report of a count, or 0 if no count was reported yet.
     counted: u64,
@@ -173,8 +174,8 @@ impl<S: LogSink> EventLog<S> {
     }
 
     /// Calls `put_counts_now` if the time of the last report of a count is at least a minute away
-    /// from `moment`. `strangers` is the total number of dropped datagrams from endpoints that are
-    /// not peers.
+    /// from `moment`. `strangers` is the total number of datagrams that were dropped because their
+    /// endpoints are not peers.
     pub fn put_counts(&mut self, moment: u64, strangers: u64)
         ensures others { self.new ≡ record self.old {
           text = self.new.text;
@@ -188,11 +189,10 @@ impl<S: LogSink> EventLog<S> {
         }
     }
 
-    /// Appends a line with the number of closed faces, and a line with the number of dropped
-    /// datagrams from endpoints that are not peers. Both lines count only what is not yet reported,
-    /// and a line with the number 0 is left out. `strangers` is the total number of dropped
-    /// datagrams from endpoints that are not peers, including the datagrams that are already
-    /// reported.
+    /// Appends a line with the number of closed faces, and a line with the number of datagrams that
+    /// were dropped because their endpoints are not peers. Both lines count only what is not yet
+    /// reported, and a line with the number 0 is left out. `strangers` is the total number of these
+    /// datagrams, including the datagrams that are already reported.
     pub fn put_counts_now(&mut self, moment: u64, strangers: u64)
         ensures others { self.new ≡ record self.old {
           text = self.new.text;

@@ -16,7 +16,7 @@ pub enum Fault {
     CommandLine(clap::Error),
     /// A value of an option, or of the argument `PEERS`, is not allowed.
     BadValue {
-        /// The option, such as `--cache`, or `PEERS`, which is the name of the argument for peers.
+        /// The name of the option or argument with this value, such as `--cache` or `PEERS`.
         place: &'static str,
         /// The values that are allowed.
         wanted: &'static str,

@@ -1,4 +1,5 @@
-//! The program `ndn_node`: its command line, its files, and a node on a port.
+//! The work of the program `ndn_node`, except scripts: the command line, the files, a node on a
+//! port, and the shortening of journals.
 #![tactic(auto)]
 
 mod advice;

@@ -18,7 +18,7 @@ pub trait HasEndpoints {
     /// Returns the endpoint of a face, if the face has one.
     fn endpoint_of(&self, face: u64) -> Option<SocketAddr>;
 
-    /// Returns the number of dropped datagrams from endpoints that are not peers.
+    /// Returns the number of datagrams that were dropped because their endpoints are not peers.
     fn strangers(&self) -> u64;
 }
 
@@ -42,7 +42,7 @@ impl<P: Ports + HasEndpoints + Drop, F: JournalFile + Drop> HasEndpoints for Jou
     }
 }
 
-/// An arrival without its octets.
+/// An arrival without its time, and without the new rules and keys of a `NewRules` arrival.
 #[derive(Clone, Copy)]
 enum Seen {
     Packet { face: u64, len: usize },

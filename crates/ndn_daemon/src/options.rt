@@ -12,9 +12,10 @@ use std::alloc::Global;
 /// The options of a node.
 #[derive(Debug, Drop)]
 pub struct Options {
-    /// The path of the rule file. Without a rule file, no command and no Data is allowed.
+    /// The path of the rule file. Without a rule file, the node starts with no rules. A node with
+    /// no rules allows no command and no Data.
     pub rules: Option<String>,
-    /// The path of the key file. Without a key file, there are no keys.
+    /// The path of the key file. Without a key file, the node starts with no keys.
     pub keys: Option<String>,
     /// The repository's prefix.
     pub repo: NameBuf,

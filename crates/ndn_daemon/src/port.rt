@@ -543,7 +543,7 @@ fn put_turn(
         (text.new.items ≡ text.old.items ++ turn_text number rules.now turn.now outbox.now) }
     ensures err { OnErr result (text.new.items ≡ text.old.items) }
     ensures fault { IfErr result (λ fault. fault ≡ Fault.Script RunFault.Memory) }
-    // If the capacity of `text` is enough for the text of the turn, memory does not run out.
+    // If the text of the turn fits into the unused capacity of `text`, memory does not run out.
     ensures room { vec_len text.old + length (turn_text number rules.now turn.now outbox.now)
         ≤ vec_capacity text.old → IsOk result }
 {

@@ -175,8 +175,8 @@ fn check_peers(listen: &SocketAddr, peers: &[SocketAddr]) -> Result<(), Fault>
 }
 
 /// Returns whether the peer is the node itself, which listens on `listen`. With such a peer, the
-/// node would receive its own datagrams. If `listen` is unspecified, the machine's addresses other
-/// than loopback addresses are not recognized.
+/// node would receive its own datagrams. If `listen` has the unspecified address, this function
+/// recognizes only the loopback addresses of the machine, and none of its other addresses.
 fn is_itself(listen: &SocketAddr, peer: &SocketAddr) -> bool
     ensures { IsTrue result ↔ IsItself listen.now peer.now }
 {

@@ -41,8 +41,8 @@ end_words (Closed face) outcome = []
 end_words Tick outcome = []
 end_words NewRules outcome = []
 
--- The words for an event: what happened, the verdict, and the octets of a dropped packet. The
--- verdict shows a rule by its id in `rules`.
+-- The words for an event: what happened, the verdict or `out of memory`, and the octets of a
+-- dropped packet. The verdict shows a rule by its id in `rules`.
 abbrev pub event_words : List PlainRule → Entry → Result code.Verdict Memory → List ℕ
 event_words rules entry outcome =
     let frame = frame_in (octets_in entry.came) in

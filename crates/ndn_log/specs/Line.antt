@@ -23,8 +23,8 @@ abbrev pub IsOneLine : List ℕ → Type 0
 IsOneLine line =
     (front : List ℕ) × (line ≡ front ++ codes "\n") × (list_all is_printable front ≡ true)
 
--- `new` is `old` with one line appended. The line has the time `moment`, in milliseconds since
--- 1970, and the text `words`. Octets that are not printable ASCII are escaped.
+-- `new` is `old` with one line appended. The line has the time that is `moment` milliseconds after
+-- the start of 1970, and the text `words`. Octets that are not printable ASCII are escaped.
 pub record IsLogged (old new : List ℕ) (moment : ℕ) (words : List ℕ) : Type 0 where
   pub time : List ℕ
   pub is_time : IsTimeText moment time

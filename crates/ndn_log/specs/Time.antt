@@ -12,7 +12,7 @@ IsDateText nanosecond text =
     (shown : DateTime) × (civil_nanos shown ≡ nanosecond)
     × (text ≡ datetime_text false 84 (Some 3) shown ++ codes "Z")
 
--- `text` is the text for the time `moment`, in milliseconds since 1970. Up to
+-- `text` is the text for the time that is `moment` milliseconds after the start of 1970. Up to
 -- 9999-12-30T22:00:00.999Z, `text` is the date and time in UTC. After that time, `text` is `moment`
 -- in decimal digits.
 pub record IsTimeText (moment : ℕ) (text : List ℕ) : Type 0 where

@@ -26,7 +26,7 @@ beginning_words [] = []
 beginning_words (o ∷ octets) =
     codes " beginning " ++ encode_lower (take SHOWN_OCTETS (o ∷ octets))
 
--- the words ` or more` if there are 9,001 octets, otherwise nothing: a packet of more than 9,000
+-- the words ` or more` if there are 9,001 octets, otherwise nothing: a packet of more than 9,001
 -- octets is truncated to 9,001 octets
 abbrev pub more_words : ℕ → List ℕ
 more_words count = if count == CUT_OCTETS then codes " or more" else []

@@ -16,11 +16,12 @@ use ndn_packets::Frame;
 use ndn_tlv::Memory;
 use std::alloc::Global;
 
-/// Appends the line of an event: the time of the event, what happened, and the verdict. For an
-/// event on a face, the line also has the face, and the endpoint of the face if known. For an
-/// Interest, a Data or a Nack, the line also has the packet's name. For a dropped packet, the line
-/// also has the number of octets and at most the first 32 octets. The verdict shows a rule by its
-/// id in `rules`, the rules in force. If memory runs out, nothing is appended.
+/// Appends the line of an event: the time of the event, what happened, and the verdict, or
+/// `out of memory` if `outcome` is an error. For an event on a face, the line also has the face,
+/// and the endpoint of the face if known. For an Interest, a Data or a Nack, the line also has the
+/// packet's name. For a dropped packet, the line also has the number of octets and at most the
+/// first 32 octets. The verdict shows a rule by its id in `rules`, the rules in force. If memory
+/// runs out, nothing is appended.
 pub fn put_event(
     alloc: Global,
     text: &mut Vec<u8>,

@@ -1,5 +1,5 @@
 //! The lines of a log for operators. There are lines about the events of a node, failed sends,
-//! closed faces, and dropped datagrams from endpoints that are not peers.
+//! closed faces, and datagrams that were dropped because their endpoints are not peers.
 #![tactic(auto)]
 
 mod entry;

@@ -48,8 +48,8 @@ fn is_printable(octet: u8) -> bool
     32 <= octet && octet <= 126
 }
 
-/// Appends a line with the time `moment`, in milliseconds since 1970, and the text `words`. If
-/// memory runs out, nothing is appended.
+/// Appends a line with the time `moment` and the text `words`. `moment` is in milliseconds since
+/// 1970. If memory runs out, nothing is appended.
 pub fn put_line(alloc: Global, text: &mut Vec<u8>, moment: u64, words: &[u8]) -> Result<(), Memory>
     ensures ok { OnOk result (IsLogged text.old.items text.new.items moment words.now) }
     ensures one_line { OnOk result (IsOneLine (drop (vec_len text.old) text.new.items)) }

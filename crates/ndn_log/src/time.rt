@@ -8,8 +8,7 @@ use jiff::fmt::temporal::DateTimePrinter;
 use ndn_tlv::Memory;
 use std::io::Write;
 
-/// The last time that has a date in every time zone, 9999-12-30T22:00:00.999Z, in milliseconds
-/// since 1970.
+/// The greatest time of a `Timestamp`, 9999-12-30T22:00:00.999Z, in whole milliseconds since 1970.
 const LAST_DATED: u64 = 253_402_207_200_999;
 
 /// Appends a time. `moment` is in milliseconds since 1970. The time is in UTC with three digits of

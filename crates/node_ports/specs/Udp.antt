@@ -35,7 +35,7 @@ pub record UdpState : Type 0 where
   pub told : ℕ
   -- whether datagrams from endpoints that are not peers are accepted
   pub accepts_strangers : Bool
-  -- the number of dropped datagrams from endpoints that are not peers
+  -- the number of datagrams that were dropped because their endpoints are not peers
   pub strangers : ℕ
   -- the number of failed calls
   pub failures : ℕ

@@ -85,16 +85,16 @@ impl MemoryPorts {
         }
     }
 
-    /// Makes the `k`th call of `next` after this call of `fail_next` fail. If `k` is 0, no call of
-    /// `next` is told to fail.
+    /// Tells the `k`th later call of `next` to fail. If `k` is 0, no call of `next` is told to
+    /// fail.
     pub fn fail_next(&mut self, k: u64)
         ensures { self.new ≡ record self.old { next_told = k } }
     {
         self.next_told = k;
     }
 
-    /// Makes the `k`th call of `send` after this call of `fail_send` fail. If `k` is 0, no call of
-    /// `send` is told to fail.
+    /// Tells the `k`th later call of `send` to fail. If `k` is 0, no call of `send` is told to
+    /// fail.
     pub fn fail_send(&mut self, k: u64)
         ensures { self.new ≡ record self.old { send_told = k } }
     {

@@ -48,7 +48,7 @@ pub enum PortFault {
 }
 
 /// A port returns arrivals and sends packets. A port counts the failed calls of `next` and `send`:
-/// each of them increases the count, unless the count is the greatest u64.
+/// each failed call increases the count, unless the count is the greatest u64.
 pub trait Ports {
     // The number of failed calls of `next` and `send`, at most the greatest u64.
     ghost failures: { Self → ℕ };

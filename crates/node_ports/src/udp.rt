@@ -31,13 +31,13 @@ pub trait Moments: Drop {
 /// Ports over one UDP socket, with a face for each known endpoint.
 ///
 /// The peers' endpoints have the faces 1, 2 and so on. Each of these faces is opened in a turn of
-/// its own before any datagram is received. An unknown endpoint is stored as a client, unless 64
-/// endpoints are known. A Far face with the next number is opened for a client before the client's
-/// first packet arrives. A datagram from an endpoint that is not stored gives two arrivals: the
-/// opening of a face and the packet. These two arrivals have a face number that no open face has:
-/// 65 if no face has closed. A node with 64 faces does not open this face. The number of an opened
-/// face is never used for another face, unless it is the greatest u64. The ports never return
-/// `End`.
+/// its own before any datagram is received. An unknown endpoint that sends a datagram is stored as
+/// a client, unless 64 endpoints are known. A Far face with the next number is opened for a client
+/// before the client's first packet arrives. A datagram from an endpoint that is not stored gives
+/// two arrivals: the opening of a face and the packet. These two arrivals have a face number that
+/// no open face has: 65 if no face has closed. A node with 64 faces does not open this face. The
+/// number of an opened face is never used for another face, unless it is the greatest u64. The
+/// ports never return `End`.
 ///
 /// After a call of `close_after`, the faces of idle clients close. A peer's face never closes.
 /// After a call of `ignore_strangers`, only datagrams from peers are accepted.
@@ -353,11 +353,11 @@ impl<M: Moments> UdpPorts<M> {
         true
     }
 
-    /// Receives a datagram and returns its arrival, or `None` if the socket gives no datagram or
-    /// the socket's waiting time cannot be set. A datagram from an endpoint that is not accepted is
-    /// dropped and counted. After a counted datagram, returns `None` if `is_brief` is true, and
-    /// receives the next datagram if `is_brief` is false. Precondition: all peers' faces are
-    /// opened, and no datagram waits for the next turn.
+    /// Receives a datagram and returns the arrival that is due to it, or `None` if the socket gives
+    /// no datagram or the socket's waiting time cannot be set. A datagram from an endpoint that is
+    /// not accepted is dropped and counted. After a counted datagram, returns `None` if `is_brief`
+    /// is true, and receives the next datagram if `is_brief` is false. Precondition: all peers'
+    /// faces are opened, and no datagram waits for the next turn.
     fn receive(&mut self, buffer: &mut [u8], is_brief: bool) -> Option<Arrival>
         requires { Listens self.old }
         ensures fits { IfSome result (LiesWithin (length buffer.new)) }
