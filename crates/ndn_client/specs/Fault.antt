@@ -15,10 +15,10 @@ key_status (TwiceNamed line) = 1
 key_status TooMany = 1
 key_status KeyMemory = 3
 
--- The exit status. It is 1 if a key is named without a key file, if the content of the key file has
--- a fault, or if a request was not done. It is 2 if an argument is not UTF-8. It is 3 if reading,
--- writing or sending failed, if a port could not be bound, if memory ran out, or if no answer came
--- to the packet of `send`. The fault of a job has its own exit status.
+-- The exit status. It is 1 if a key is named without a key file, if the key file is too large or
+-- its content has a fault, or if a request was not done. It is 2 if an argument is not UTF-8. It is
+-- 3 if reading, writing or sending failed, if a port could not be bound, if memory ran out, or if
+-- no answer came to the packet of `send`. The fault of a job has its own exit status.
 abbrev pub status_of : Fault → ℕ
 status_of (fault.Tool why) = tool_status why
 status_of fault.NoKeyFile = 1

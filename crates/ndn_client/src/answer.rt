@@ -268,7 +268,7 @@ fn data_sign<'a>(key: &'a Option<NameBuf>, book: &'a KeyBook) -> Result<Sign<'a>
     }
 }
 
-/// Returns an HMAC signature with the key of this name.
+/// Returns how a packet is signed by an HMAC with the key of this name.
 fn hmac_of<'a>(name: &'a NameBuf, book: &'a KeyBook) -> Result<Sign<'a>, ToolFault>
     ensures { MatchResult result (IsHmac name.now book.now) (IsNoKey (Some name.now) book.now) }
 {

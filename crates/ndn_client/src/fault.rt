@@ -55,10 +55,10 @@ impl Fault {
     ghost use Rattle.ndn_client.specs.Fault.{status_of};
 
     /// Returns the exit status. For `Tool`, the exit status is that of the job's fault. For any
-    /// other fault, the exit status is 1 if a key is named without a key file, if the content of
-    /// the key file has a fault, or if a request was not done. The exit status is 2 if an argument
-    /// is not UTF-8. The exit status is 3 if reading, writing or sending failed, if a port could
-    /// not be bound, if memory ran out, or if no answer came to the packet of `send`.
+    /// other fault, the exit status is 1 if a key is named without a key file, if the key file is
+    /// too large or its content has a fault, or if a request was not done. The exit status is 2 if
+    /// an argument is not UTF-8. The exit status is 3 if reading, writing or sending failed, if a
+    /// port could not be bound, if memory ran out, or if no answer came to the packet of `send`.
     pub fn exit_status(&self) -> u8
         ensures { result ≡ status_of self.now }
     {

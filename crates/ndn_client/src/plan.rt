@@ -114,8 +114,8 @@ fn printed(alloc: Global, job: &Job, book: &KeyBook, input: &str) -> Result<Vec<
     }
 }
 
-/// Returns the request of a job that sends a packet. Returns no octets if a job of this kind never
-/// sends a packet.
+/// Returns the request of a job that sends a packet. Returns no octets for a job other than
+/// `Command`, `Ask` and `Send`.
 fn request_of(alloc: Global, job: &Job, book: &KeyBook, input: &str) -> Result<Vec<u8>, ToolFault>
     ensures { MatchResult result (IsRequest job.now book.now input.now)
         (IsNoPlan job.now book.now input.now) }

@@ -111,7 +111,7 @@ fn run_exchange<R: Clock + AllocGlobal + Eprint + Net + Print>(
 /// # Errors
 ///
 /// `NotDone` if a request was not carried out, or if no answer came to a request other than the
-/// packet of `send`. Any other fault is the reason why the exchange has no outcome.
+/// packet of `send`. Any other fault says why the exchange was not completed.
 pub fn exchange_on<R: Clock + AllocGlobal + Eprint + Print>(
     rt: &R,
     socket: &UdpSocket,

@@ -7,8 +7,8 @@ ghost use Rattle.ndn_command_line.specs.CommandLine.{HasApp, HasRule, a_position
 use clap::{Arg, ArgAction, Command};
 use std::alloc::{AllocError, Global};
 
-/// An argument: its id, the placeholder for its value (if it takes a value), and its help text. The
-/// id of an option or a flag is its long name.
+/// An argument: its id, the placeholder for its value (if the argument is an option with a value),
+/// and its help text. The id of an option or a flag is its long name.
 #[derive(Clone, Copy)]
 pub enum Argument<'a> {
     /// A positional argument that is required.

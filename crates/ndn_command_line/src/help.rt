@@ -21,7 +21,7 @@ Exit status:
   0  the command line was carried out
   1  a key file has a fault, or the key that --key names is missing; a packet would be too long, or
      would have a name that is not allowed; the octets given to show or explain are not a packet
-  2  the command line is wrong, or the standard input of send is not hexadecimal
+  2  the command line is wrong; standard input is too long or, for send, not hexadecimal
   3  reading, writing or sending failed, the subcommand send got no answer, or memory ran out
 
 If route, strategy, cache, repo or peek sends a packet, the exit status is 0 only if one of these

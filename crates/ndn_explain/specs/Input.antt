@@ -1,5 +1,5 @@
--- Explaining the lines of a text: a packet is replaced by its explanation, any other line stays as
--- it is, and empty lines are left out.
+-- Explaining the lines of a text: a packet is replaced by its explanation, a line without a packet
+-- stays as it is, and empty lines are left out.
 use Rattle.std.specs.Prelude.{◌≡◌, ◌⊎◌, ℕ, List, [], ◌∷◌, ◌++◌, codes, Option, Result, Ok, Err, Bool, false, ◌==◌, if◌then◌else◌}
 use Rattle.hex.specs.declared.error.FromHexError.{FromHexError}
 use Rattle.hex.specs.Hex.{decode_of}

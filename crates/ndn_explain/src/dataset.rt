@@ -111,8 +111,8 @@ fn put_choice(
     Ok(())
 }
 
-/// Returns `best-route` or `multicast` if `uri` is the URI of this strategy. Returns any other URI
-/// unchanged.
+/// Returns the short name of the strategy with the URI `uri`: `best-route` or `multicast` for these
+/// two strategies, and the whole URI for any other strategy.
 fn short_strategy(uri: &[u8]) -> &[u8]
     ensures { result.now ≡ short_strategy uri.now }
 {

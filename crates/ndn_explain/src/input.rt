@@ -53,8 +53,8 @@ fn put_line(
     put_digits(alloc, text, line, head, digits, keys)
 }
 
-/// Explains a line. For this line, `parts_of` returns `head`, the text before the packet, and
-/// `digits`, the digits of the packet.
+/// Explains a line. `head` and `digits` are what `parts_of` returns for this line: the text before
+/// the packet, and the packet's digits.
 fn put_digits(
     alloc: Global,
     text: &mut Vec<u8>,

@@ -268,8 +268,8 @@ fn put_flags_text(alloc: Global, text: &mut Vec<u8>, value: &[u8]) -> Result<(),
     }
 }
 
-/// A route has the flags child-inherit and capture. Returns the names of the flags that are set, or
-/// `none` if neither flag is set.
+/// Returns the names of those flags of a route that are set, or `none` if no flag is set. The flags
+/// are child-inherit and capture.
 fn flags_word(flags: u64) -> &'static str
     ensures { result.now ≡ flags_word flags }
 {

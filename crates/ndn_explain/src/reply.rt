@@ -15,7 +15,7 @@ use ndn_packets::{DIGEST_SHA256, Locator, Signature, put_reply};
 use ndn_tlv::{Memory, first_field, single_element};
 use std::alloc::Global;
 
-/// Returns the Content in the octets, if the octets are exactly the reply that a node writes to the
+/// Returns the Content in the octets, if the octets are exactly a reply that a node writes to the
 /// command with this name. The reply is a Data that has no MetaInfo and is signed with
 /// DigestSha256. The Data may have any length. Returns `None` for any other octets.
 pub fn written_content<'a>(

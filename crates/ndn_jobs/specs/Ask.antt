@@ -48,8 +48,8 @@ is_alone rows =
     && lacks rows (codes "STRATEGY") && lacks rows (codes "time") && lacks rows (codes "seq")
     && lacks rows (codes "keys") && lacks rows (codes "key")
 
--- the list of routes for the subcommand `route`, and the list of strategies for any other
--- subcommand
+-- which list a subcommand requests: the list of routes for the subcommand `route`, and the list of
+-- strategies for any other subcommand
 abbrev pub list_of : List ℕ → NodeList
 list_of subcommand = if bytes_eq subcommand (codes "route") then Routes else Strategies
 

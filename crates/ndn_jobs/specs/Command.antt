@@ -44,8 +44,8 @@ IsListedJob now words name rows job = ⊥
 
 -- The job that the options `rows` of a subcommand describe. `name` is the subcommand's name, `now`
 -- is the time, and `words` are the words of the command line. The subcommands `route`, `strategy`,
--- `cache` and `repo` are short forms of the subcommand `command`. But `route list` and `strategy
--- list` request a list.
+-- `cache` and `repo` are short forms of the subcommand `command`. But the subcommands `route` and
+-- `strategy` with the verb `list` request a list.
 abbrev pub IsJobFor : Subcommand → ℕ → List ℕ → List ℕ → List Row → Job → Type 0
 IsJobFor sub.Interest now words name rows (Interest job) = IsLinkJob rows job
 IsJobFor sub.Data now words name rows (Data job) = IsDataJob rows job
@@ -65,18 +65,19 @@ abbrev pub IsFoundJob : Option Subcommand → ℕ → List ℕ → List ℕ → 
 IsFoundJob None now words name rows job = ⊥
 IsFoundJob (Some subcommand) now words name rows job = IsJobFor subcommand now words name rows job
 
--- the job of the subcommand with this name, if there is such a subcommand
+-- the job of the subcommand with this name; there is no job if there is no such subcommand
 abbrev pub IsNamedJob : ℕ → List ℕ → List ℕ → List Row → Job → Type 0
 IsNamedJob now words name rows job = IsFoundJob (subcommand_named name) now words name rows job
 
--- the job of the subcommand that was found, if one was found
+-- the job of the subcommand that the parser found; there is no job if it found no subcommand
 abbrev pub IsJob : ℕ → List ℕ → Option (List ℕ × List Row) → Job → Type 0
 IsJob now words None job = ⊥
 IsJob now words (Some used) job = IsNamedJob now words used.0 used.1 job
 
 -- ---- command lines
 
--- the faults of a command line; the list is empty if the command line has none
+-- the kinds of the faults that the parser may report for a command line; a request for help or the
+-- version counts as a fault here; the list is empty if the command line has no fault
 abbrev pub faults : List (List ℕ) → Kinds
 faults arguments = fault_of tool arguments
 

@@ -30,7 +30,7 @@ abbrev pub out_of_memory : List ℕ
 out_of_memory = codes "error: out of memory\n"
 
 -- the message for a bad value; None for any other wrong command line, since the command-line parser
--- makes its message
+-- writes the message for this fault
 abbrev pub usage_text : Usage → Option (List ℕ)
 usage_text (CommandLine error) = None
 usage_text (BadValue place wanted) =

@@ -4,7 +4,7 @@ use Rattle.std.specs.Option.{option_map}
 use Rattle.ndn_jobs.specs.declared.job.Job.{Job}
 use Rattle.ndn_jobs.specs.declared.job.Job.TheVariants.{Help, Interest, Data, Command, Tag, Show, Explain, Send, Ask}
 
--- the path of the key file that a job names, if it names one
+-- the path of the key file that a job names, or None if the job names no key file
 abbrev pub key_file_of : Job → Option (List ℕ)
 key_file_of (Help error) = None
 key_file_of (Interest job) = option_map string_bytes job.interest.key.keys

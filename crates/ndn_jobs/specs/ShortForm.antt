@@ -55,8 +55,8 @@ fits_route action rows =
     && may_give action FLAGS (value_at rows (codes "flags"))
     && may_give action EXPIRATION_PERIOD (value_at rows (codes "expires"))
 
--- whether the options suit the verb: the verb allows all given options, and no required option is
--- missing
+-- whether the options suit the action: the options of a command on routes satisfy `fits_route`; a
+-- strategy is required for `SetStrategy`, and is not allowed for `UnsetStrategy`
 abbrev pub fits : Action → List Row → Bool
 fits AddNexthop rows = fits_route AddNexthop rows
 fits RemoveNexthop rows = fits_route RemoveNexthop rows
@@ -97,7 +97,7 @@ pub record IsFormJob (action : Action) (now : ℕ) (words : List ℕ) (rows : Li
   pub parameters : AreShortParameters rows job.parameters
   pub stamp : IsShortStamp now words rows job.stamp
 
--- the command that the options describe, for the subcommand with this name
+-- the command that the options of the subcommand with this name describe
 abbrev pub IsShortJob : ℕ → List ℕ → List ℕ → List Row → CommandJob → Type 0
 IsShortJob now words subcommand rows job =
     (action : Action) × Has (value_at rows (codes "VERB")) (IsVerb subcommand) action

@@ -54,7 +54,7 @@ fn answer_to(error: Error) -> Result<Job, ToolFault>
     }
 }
 
-/// Returns the job of the subcommand that was found.
+/// Returns the job of the subcommand in `matches`.
 fn job_of(alloc: Global, matches: &ArgMatches<'_>, now: u64, words: &[u8]) -> Result<Job, ToolFault>
     ensures { ReadsInMemory (IsJob now words.now (subcommand_rows_of matches.now)) result }
 {
@@ -64,15 +64,15 @@ fn job_of(alloc: Global, matches: &ArgMatches<'_>, now: u64, words: &[u8]) -> Re
     }
 }
 
-/// Returns the name and the options of the subcommand that was found, or `None` if no subcommand
-/// was found.
+/// Returns the name and the options of the subcommand in `matches`, or `None` if there is no
+/// subcommand.
 fn used<'a, 'm>(matches: &'m ArgMatches<'a>) -> Option<(&'a str, &'m ArgMatches<'a>)>
     ensures { option_map (λ p. (p.0.now, rows_in p.1.now)) result ≡ subcommand_rows_of matches.now }
 {
     matches.subcommand()
 }
 
-/// Returns the job that the options describe, for the subcommand with this name.
+/// Returns the job that the options of the subcommand with this name describe.
 fn named_job(
     alloc: Global,
     name: &str,

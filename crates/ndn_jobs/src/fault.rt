@@ -27,7 +27,7 @@ pub enum Usage {
 pub enum ToolFault {
     /// The command line or standard input is wrong.
     Usage(Usage),
-    /// The key is not in the key file.
+    /// The key is not in the key file, or no key file is given.
     NoKey,
     /// The packet cannot be written.
     Write(WriteFault),
@@ -57,7 +57,7 @@ impl ToolFault {
     }
 }
 
-/// Returns the fault of an invalid value.
+/// Returns the fault of an invalid or missing value: `BadValue` with this `place` and `wanted`.
 pub fn refusal(place: &'static str, wanted: &'static str) -> ToolFault
     ensures { result ≡ ToolFault.Usage (Usage.BadValue place.entry wanted.entry) }
 {

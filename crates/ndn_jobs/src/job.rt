@@ -19,7 +19,7 @@ use ndn_names::NameBuf;
 use ndn_requests::{NodeList, Parameters, View, action_name, list_name};
 use std::alloc::Global;
 
-/// What a command line asks for: a subcommand with its options.
+/// What a command line asks for: the help, the version, or a subcommand with its options.
 #[derive(Drop)]
 pub enum Job {
     /// Print the help text or the version.
@@ -39,8 +39,8 @@ pub enum Job {
     Explain(ExplainJob),
     /// Send a packet, and print the first datagram that comes back.
     Send(SendJob),
-    /// Send an Interest, and print what its answer contains. If no destination port is given, print
-    /// the Interest.
+    /// If a destination port is given, send an Interest, and print what its answer contains.
+    /// Otherwise print the Interest.
     Ask(AskJob),
 }
 
@@ -170,7 +170,7 @@ impl Job {
     ghost use Rattle.std.specs.Prelude.{◌≡◌, option_map};
     ghost use Rattle.ndn_jobs.specs.Job.{key_file_of};
 
-    /// Returns the path of the key file that the job names, if it names one.
+    /// Returns the path of the key file that the job names, or `None` if it names no key file.
     pub fn key_file(&self) -> Option<&str>
         ensures { option_map (λ path. path.now) result ≡ key_file_of self.now }
     {
@@ -189,8 +189,8 @@ impl InterestJob {
     ghost use Rattle.ndn_jobs.specs.Value.{ReadsInMemory};
     ghost use Rattle.ndn_jobs.specs.Options.{rows_in, IsInterestJob};
 
-    /// Returns the Interest that the options of the subcommand `interest` describe, without the PIT
-    /// token.
+    /// Returns the Interest that the options of the subcommand `interest` describe. The option for
+    /// the PIT token is not read.
     pub fn read(alloc: Global, options: &ArgMatches<'_>) -> Result<InterestJob, ToolFault>
         ensures { ReadsInMemory (IsInterestJob (rows_in options.now)) result }
     {
@@ -521,8 +521,8 @@ fn view_of(raw: bool) -> View
     if raw { View::Content } else { View::Lines }
 }
 
-/// Returns the list of routes for the subcommand `route`, and the list of strategies for any other
-/// subcommand.
+/// Returns which list a subcommand requests: the list of routes for the subcommand `route`, and the
+/// list of strategies for any other subcommand.
 fn list_of(subcommand: &str) -> NodeList
     ensures { result ≡ list_of subcommand.now }
 {
@@ -587,7 +587,8 @@ impl ExplainJob {
     ghost use Rattle.ndn_jobs.specs.Value.{ReadsInMemory};
     ghost use Rattle.ndn_jobs.specs.Options.{rows_in, IsExplainJob};
 
-    /// Returns the packets and the key file that the options of the subcommand `explain` give.
+    /// Returns the packet and the path of the key file that the options of the subcommand `explain`
+    /// give.
     pub fn read(alloc: Global, options: &ArgMatches<'_>) -> Result<ExplainJob, ToolFault>
         ensures { ReadsInMemory (IsExplainJob (rows_in options.now)) result }
     {

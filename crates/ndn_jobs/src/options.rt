@@ -15,7 +15,7 @@ use clap::ArgMatches;
 use ndn_names::NameBuf;
 use std::alloc::Global;
 
-/// Returns the value of an option, if the option is given.
+/// Returns the value of an option, or `None` if the option is not given.
 pub fn value<'a>(options: &ArgMatches<'a>, id: &str) -> Option<&'a str>
     ensures { option_map (λ value. value.now) result ≡ value_at (rows_in options.now) id.now }
 {
@@ -108,7 +108,7 @@ pub fn flag(options: &ArgMatches<'_>, id: &'static str) -> bool
     options.get_flag(id)
 }
 
-/// Returns the number that an option spells, if the option is given.
+/// Returns the number that an option spells, or `None` if the option is not given.
 pub fn number(options: &ArgMatches<'_>, id: &'static str) -> Result<Option<u64>, ToolFault>
     ensures { Reads (MayHave (value_at (rows_in options.now) id.now) IsNumber) result }
 {
@@ -118,7 +118,7 @@ pub fn number(options: &ArgMatches<'_>, id: &'static str) -> Result<Option<u64>,
     }
 }
 
-/// Returns the number of hops that an option spells, if the option is given.
+/// Returns the number of hops that an option spells, or `None` if the option is not given.
 pub fn hops(options: &ArgMatches<'_>, id: &'static str) -> Result<Option<u8>, ToolFault>
     ensures { Reads (MayHave (value_at (rows_in options.now) id.now) IsHops) result }
 {
@@ -128,7 +128,7 @@ pub fn hops(options: &ArgMatches<'_>, id: &'static str) -> Result<Option<u8>, To
     }
 }
 
-/// Returns the port that an option spells, if the option is given.
+/// Returns the port that an option spells, or `None` if the option is not given.
 pub fn port(options: &ArgMatches<'_>, id: &'static str) -> Result<Option<u16>, ToolFault>
     ensures { Reads (MayHave (value_at (rows_in options.now) id.now) IsPort) result }
 {
@@ -138,7 +138,7 @@ pub fn port(options: &ArgMatches<'_>, id: &'static str) -> Result<Option<u16>, T
     }
 }
 
-/// Returns the octets that an option spells, if the option is given.
+/// Returns the octets that an option spells, or `None` if the option is not given.
 pub fn octets(
     alloc: Global,
     options: &ArgMatches<'_>,
@@ -152,7 +152,7 @@ pub fn octets(
     }
 }
 
-/// Returns the PIT token that an option spells, if the option is given.
+/// Returns the PIT token that an option spells, or `None` if the option is not given.
 pub fn token(
     alloc: Global,
     options: &ArgMatches<'_>,
@@ -166,7 +166,7 @@ pub fn token(
     }
 }
 
-/// Returns the name that an option spells, if the option is given.
+/// Returns the name that an option spells, or `None` if the option is not given.
 pub fn name(
     alloc: Global,
     options: &ArgMatches<'_>,
@@ -180,8 +180,8 @@ pub fn name(
     }
 }
 
-/// Returns the name of the strategy that an option spells, if the option is given. The option's
-/// value is a URI, or the word `best-route` or `multicast`.
+/// Returns the name of the strategy that an option spells, or `None` if the option is not given.
+/// The option's value is a URI, or the word `best-route` or `multicast`.
 pub fn strategy(
     alloc: Global,
     options: &ArgMatches<'_>,
@@ -196,7 +196,7 @@ pub fn strategy(
     }
 }
 
-/// Returns the 4 octets of the Nonce that an option spells, if the option is given.
+/// Returns the 4 octets of the Nonce that an option spells, or `None` if the option is not given.
 pub fn nonce(options: &ArgMatches<'_>, id: &'static str) -> Result<Option<[u8; 4]>, ToolFault>
     ensures { Reads (MayHave (value_at (rows_in options.now) id.now) IsNonce) result }
 {
@@ -206,7 +206,7 @@ pub fn nonce(options: &ArgMatches<'_>, id: &'static str) -> Result<Option<[u8; 4
     }
 }
 
-/// Returns the path in an option's value, if the option is given.
+/// Returns the path that an option gives, or `None` if the option is not given.
 pub fn path(
     alloc: Global,
     options: &ArgMatches<'_>,

@@ -76,7 +76,8 @@ fn action_of(subcommand: &str, verb: &str) -> Option<Action>
     None
 }
 
-/// Checks that the verb allows all given options, and that no required option is missing.
+/// Checks that the options suit the action. The options of a command on routes are checked by
+/// `check_route`. A strategy is required for `SetStrategy`, and is not allowed for `UnsetStrategy`.
 pub fn check_fit(action: Action, options: &ArgMatches<'_>) -> Result<(), ToolFault>
     ensures { MatchResult result (λ _. fits action (rows_in options.now) ≡ true)
         (λ why. IsUsage why × (fits action (rows_in options.now) ≡ false)) }

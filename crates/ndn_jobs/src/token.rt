@@ -29,7 +29,7 @@ impl Token {
     ghost use Rattle.std.specs.Prelude.{◌≡◌, MatchOption};
     ghost use Rattle.ndn_packets.specs.Link.{IsToken};
 
-    /// Returns the token with these octets, if there are 1 to 32 of them.
+    /// Returns the token with these octets, or `None` if there are not 1 to 32 octets.
     pub fn new(octets: Vec<u8>) -> Option<Token>
         ensures { MatchOption result (IsToken octets.items → ⊥) (λ token. token ≡ octets.items) }
     {
@@ -48,7 +48,7 @@ impl Token {
     }
 }
 
-/// Returns the octets of a token, if there is a token.
+/// Returns the octets of a token, or `None` if there is no token.
 pub fn token_octets(token: &Option<Token>) -> Option<&[u8]>
     ensures value { option_map (λ o. o.now) result ≡ token.now }
     ensures sized { IfSome result (λ o. IsToken o.now) }

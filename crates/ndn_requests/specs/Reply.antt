@@ -96,7 +96,7 @@ is_same_name a b = bytes_eq (octets a) (octets b)
 
 -- The outcome of a request, given a Data that answers its Interest. If the Interest is not a
 -- command, the Data is accepted. If the Interest is a command, the Data must also have the
--- command's name and a right signature; otherwise there is no outcome.
+-- Interest's name and a right signature; otherwise there is no outcome.
 abbrev pub data_outcome : PlainInterest → PlainData → Option TagCheck → Option Outcome
 data_outcome asked d check =
     if is_command asked.name

@@ -18,9 +18,9 @@ ghost use Rattle.ndn_requests.specs.Commands.{AreValues, Fits64, IsWhole, asked_
 ghost use Rattle.ndn_requests.specs.Reply.{content_outcome, done_if, is_insert, is_of_repository};
 ghost use Rattle.ndn_requests.specs.Shown.{node_shown, repository_shown};
 
-/// Law: if the parameters suit the command, the node reads the command's name as exactly the
-/// requested command. Otherwise the node refuses the name with status 400. The digest that follows
-/// the parameters makes no difference.
+/// Law: if the parameters suit the command, the node reads the name of the command's Interest as
+/// exactly the requested command. Otherwise the node refuses this name with status 400. The digest
+/// that follows the parameters makes no difference.
 pub fn nodes_read_what_is_asked()
     ensures { (action : Action) (p : Parameters) (digest : List ℕ) → AreValues p
         → IsWhole (command_name (node_name action) p)
@@ -28,8 +28,8 @@ pub fn nodes_read_what_is_asked()
         ≡ (if suits action p then Ok (asked_of action p) else Err code.BAD_PARAMETERS) }
 {}
 
-/// Law: if a command's name is not under `/localhost/nfd`, the repository reads the name as exactly
-/// the requested command, whatever digest follows the parameters.
+/// Law: if a command's name is not under `/localhost/nfd`, the repository reads the name of the
+/// command's Interest as exactly the requested command, whatever digest follows the parameters.
 pub fn repositories_read_what_is_asked()
     ensures { (prefix : List Field) (verb : Verb) (p : Parameters) (digest : List ℕ)
         → AreValues p → is_of_node (repository_name prefix verb) ≡ false
@@ -38,8 +38,8 @@ pub fn repositories_read_what_is_asked()
         ≡ Some (wanted_of verb p) }
 {}
 
-/// Law: for a reply that the node or a repository writes, the client prints exactly two things: the
-/// status with its text, and the fields of the reply.
+/// Law: for the Content of a reply that the node or a repository writes, `reply_lines` is exactly
+/// the lines of two things: the status with its text, and the fields of the reply.
 pub fn replies_are_explained()
     ensures node { (c : PlainCommand) (face status : ℕ) (text : List ℕ) → IsWhole c.name
         → face < 2 ^ 64 → c.face < 2 ^ 64 → c.origin < 2 ^ 64 → c.cost < 2 ^ 64

@@ -30,7 +30,7 @@ pub type Outcome = Result<(), Failure>;
 /// A Nack for the request's Interest is an answer. If the request is not a command, the request is
 /// done when a Data answers the Interest. If the request is a command, a Data of any length is an
 /// answer if the Data is exactly a reply that a node writes to this command. A Data with the
-/// command's name is also an answer if its signature is right, by DigestSha256 or by a key of the
+/// request's name is also an answer if its signature is right, by DigestSha256 or by a key of the
 /// book. A command is done if the status is 200, or 100 for an insert to a repository.
 pub fn judge(
     alloc: Global,
@@ -212,7 +212,7 @@ fn code_in(content: &[u8], response: u32, kind: u32) -> Option<u64>
     nni_of(value).ok()
 }
 
-/// Returns whether a command with this name is an insert to a repository.
+/// Returns whether the verb of a command with this name is `insert`.
 fn is_insert(name: Name<'_>) -> bool
     ensures { result ≡ is_insert (components name.entry) }
 {
