@@ -1,4 +1,4 @@
-//! Tests of command lines of the client: what the client prints, which packets the client sends and
+//! Tests of command lines of the client: what the client prints, which packets the client makes and
 //! reads, and the client's faults with their exit statuses.
 
 use hmac_keys::{KeyBook, KeyFault};
@@ -13,10 +13,10 @@ use std::io::{BufReader, Read, repeat};
 use std::net::{Ipv4Addr, UdpSocket};
 use std::process::Abort;
 
-/// A key file with one key, which is named `/ops/KEY/1` and consists of the text `key`.
+/// A key file with one key. The key's name is `/ops/KEY/1`, and its octets are the text `key`.
 const OPS: &str = "/ops/KEY/1 6b6579\n";
 
-/// A key file with one key, which is named `/k` and consists of the text `Jefe`.
+/// A key file with one key. The key's name is `/k`, and its octets are the text `Jefe`.
 const JEFE: &str = "/k 4a656665";
 
 /// Returns the job of a command. The command's arguments are separated by single spaces, and `''`
@@ -967,8 +967,8 @@ key not found
 status 1
 ";
 
-// The first command has two faults: its key is not found, and its name has no components. Only the
-// fault of the key is reported.
+// The first command has two faults: its key is not found, and the name of its Interest has no
+// components. Only the fault of the key is reported.
 const REFUSALS: &str = "
 $ ndn_tool interest / --nonce 01020304 --key /ops/KEY/1
 key not found
@@ -996,7 +996,7 @@ error: invalid value for freshness: give a decimal number below 2^64
 status 2
 ";
 
-/// The exit statuses and the texts of refused commands.
+/// The exit statuses of refused commands, and the texts that these commands print.
 #[test]
 fn refusals(rt: HostRuntime) {
     check_session(&rt, OPS, REFUSALS_WITH_KEYS);
@@ -1122,7 +1122,8 @@ fn refused_key_file(alloc: Global, count: u64) -> Option<String> {
     )
 }
 
-/// Returns the refusal of a packet of `count` digits, or `None` if the packet is accepted.
+/// Returns the refusal that `read_packet_input` gives for an input of `count` digits, or `None` if
+/// the input is accepted.
 fn refused_packet(alloc: Global, count: u64) -> Option<String> {
     refused(alloc, read_packet_input(alloc, repeat(b'0').take(count)))
 }
@@ -1162,8 +1163,8 @@ fn key_file_status(rt: &HostRuntime, job: &Job) -> u8 {
     }
 }
 
-/// Returns whether a command names the key file `path`, and `key_file_status` returns `status` for
-/// the command's job. If `path` is `None`, the command must name no key file.
+/// Returns `true` if a command names the key file `path` and if `key_file_status` returns `status`
+/// for the command's job. If `path` is `None`, the command must name no key file.
 fn has_key_file(rt: &HostRuntime, command: &str, path: Option<&str>, status: u8) -> bool {
     job_of(rt.alloc(), command).is_ok_and(|job| job.key_file() == path
         && key_file_status(rt, &job) == status)
@@ -1263,8 +1264,8 @@ fn prints_in_memory(alloc: Global, command: &str, wanted: &str) -> bool {
     }
 }
 
-/// If there is enough memory, the answer is printed. Otherwise the command ends with exit status
-/// 3.
+/// If there is enough memory, a command prints the text that follows it in `IN_MEMORY`. Otherwise
+/// the command ends with exit status 3.
 #[test]
 fn refused_memory(rt: HostRuntime) {
     for part in IN_MEMORY.split("$ ") {
@@ -1347,8 +1348,8 @@ const PREFIX_ANSWERS: &str = "050d070308014121000a0401020304
 0632070608014108014215017816031b01001720ad4bdd84fe28f6c7243eef0f1dbfdb7acd041e625c59fbbdf6c87b1bb228e5a5 done
 ";
 
-/// The first line is a command with CanBePrefix. A Data with the command's name is the reply, and a
-/// Data with a longer name is ignored.
+/// The first line is a command with CanBePrefix. A Data with the name of the command's Interest is
+/// the reply, and a Data with a longer name is ignored.
 const PREFIX_COMMAND_ANSWERS: &str =
     "059a075008096c6f63616c686f737408036e66640803666962080b6164642d6e657874686f70080a680807030801416901020220b3efe71974da9dc26e88d0c074c8f0ff34ea85c38b109d9e9c6400b87694f2f221000a040102030424002c1a1b01041c0f070d08036f707308034b45590801312804000f42402e20d113cf38056af9bbbec876471f4b51934978ef69345464b05cb762148eaa5dbb
 0684075008096c6f63616c686f737408036e66640803666962080b6164642d6e657874686f70080a680807030801416901020220b3efe71974da9dc26e88d0c074c8f0ff34ea85c38b109d9e9c6400b87694f2f2150965076601c867024f4b16031b01001720b6e80976e9dc6c36e0492f03adf2cda6bfa93df5c7b4489a5fc035173b9449cc done

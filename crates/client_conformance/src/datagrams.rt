@@ -90,7 +90,7 @@ fn hears_on(
     Some(heard && reply.len() == len)
 }
 
-/// Returns what `hears_on` returns for a new node with the sample keys and rules.
+/// Returns what `hears_on` returns for a new node with the rules `SAMPLE` and the keys in `KEYS`.
 fn hears_of(alloc: Global, line: &str, len: usize, row: &str) -> Option<bool> {
     let book = KeyBook::read(alloc, KEYS).ok()?;
     on_scene(

@@ -34,7 +34,7 @@ fn table(alloc: Global) -> Option<String> {
     Some(table)
 }
 
-/// Returns whether the node answers with a segment, and this segment is not the last one.
+/// Returns whether the node answers with a segment that is not the last one.
 fn goes_on(alloc: Global, scene: &mut Scene, exchange: &mut Exchange, book: &KeyBook) -> bool {
     matches!(turn(alloc, scene, exchange, book), Some(Progress::Next))
 }
@@ -67,7 +67,7 @@ fn ends_with_change(
     Some(changed && ends_as(alloc, exchange, progress, "changed")?)
 }
 
-/// Requests the list of routes, and returns what `ends` returns for the exchange.
+/// Returns what `ends` returns for an exchange that requests the list of routes.
 fn lists(
     alloc: Global,
     scene: &mut Scene,

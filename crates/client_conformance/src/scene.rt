@@ -33,7 +33,7 @@ fn rules_of(alloc: Global, text: &str) -> Option<Rules> {
     Rules::read(alloc, &tree).ok()
 }
 
-/// Returns the parts of a node with these rules and the sample keys. The prefix of the node's
+/// Returns the parts of a node with these rules and the keys in `KEYS`. The prefix of the node's
 /// repository is `/repo`.
 fn parts_of(alloc: Global, rules: &str) -> Option<NodeParts> {
     let rules = rules_of(alloc, rules)?;

@@ -131,9 +131,10 @@ fn key_shown(alloc: Global, len: usize, key: &[u8]) -> Option<String> {
     format!(in alloc; "{len}: {key}").ok()
 }
 
-/// Looks up a name in a key file, and returns the result. A row has the form `COUNT|LINES ? NAME`.
-/// The file has `COUNT` keys with the names /0, /1 and so on, followed by `LINES`. If the row has
-/// no `COUNT`, the file has only `LINES`. If the row has no `NAME`, the name is `/`.
+/// Returns what `found` returns for the key file and the name in a row. A row has the form
+/// `COUNT|LINES ? NAME`. The file has `COUNT` keys with the names /0, /1 and so on, followed by
+/// `LINES`. If the row has no `COUNT`, the file has only `LINES`. If the row has no `NAME`, the
+/// name is `/`.
 fn key_file(alloc: Global, input: &str) -> Option<String> {
     let (count, rest) = input.split_once('|').unwrap_or(("0", input));
     let (end, uri) = rest.split_once(" ? ").unwrap_or((rest, "/"));
@@ -218,9 +219,9 @@ A 00 -> BadLine(1)
     check_rows(&rt, rt.alloc(), rows, key_file);
 }
 
-/// Looks up `/A` in a key file, and returns the result. In this file, the key of `/A` has the
-/// octets that the row gives. If the result ends with the key's hexadecimal digits, these digits
-/// are left out.
+/// Returns what `found` returns for a key file and the name `/A`. In this file, the key of `/A` has
+/// the octets that the row gives. If the result ends with the key's hexadecimal digits, these
+/// digits are left out.
 fn file_of_key(alloc: Global, input: &str) -> Option<String> {
     let digits = digits_of(alloc, input)?;
     let found = found_with(alloc, &digits)?;
@@ -235,8 +236,8 @@ fn digits_of(alloc: Global, words: &str) -> Option<String> {
     hex::encode(alloc, &octets).ok()
 }
 
-/// Looks up `/A` in a key file, and returns the result. In this file, the key of `/A` has these
-/// hexadecimal digits.
+/// Returns what `found` returns for a key file and the name `/A`. In this file, the key of `/A` has
+/// these hexadecimal digits.
 fn found_with(alloc: Global, digits: &str) -> Option<String> {
     let file = format!(in alloc; "/A {digits}\n").ok()?;
     found(alloc, &file, "/A")

@@ -22,9 +22,9 @@ fn components(alloc: Global, input: &str) -> Option<String> {
     }
 }
 
-/// Returns the number of a name's components, and the last component. Returns `None` if the name's
-/// iterator returns another number of components, or if the name has a component after the last
-/// one.
+/// Returns the number of a name's components, and the last component if there is one. Returns
+/// `None` if the name's iterator returns another number of components, or if `Name::component`
+/// returns a component for the index after the last one.
 fn number_and_last(alloc: Global, name: Name<'_>) -> Option<String> {
     let len = name.len();
     if name.iter().count() != len || name.component(len).is_some() {

@@ -117,7 +117,7 @@ fn value_text(alloc: Global, value: Option<&[u8]>) -> Option<String> {
     }
 }
 
-/// Returns the name in a KeyLocator, or a word for a KeyLocator without a name.
+/// Returns the name in a KeyLocator, or a word if the KeyLocator is missing or has no name.
 fn locator_text(alloc: Global, locator: Locator<'_>) -> Option<String> {
     match locator {
         Locator::Missing => String::from_str(alloc, "missing").ok(),

@@ -68,8 +68,8 @@ fn append(alloc: Global, name: &mut NameBuf, word: &str) -> Option<()> {
     name.append(8, &octets(alloc, word)?).ok()
 }
 
-/// Shows a command: its action, name, face, cost, count and strategy. If the command is refused,
-/// shows the status instead.
+/// Shows the fields `action`, `name`, `face`, `cost`, `count` and `strategy` of a command. If the
+/// command is refused, shows the status instead.
 fn command_shown(alloc: Global, row: &str) -> Option<String> {
     let name = name_in(alloc, row)?;
     match Command::read(name.view()) {
@@ -83,7 +83,7 @@ fn status_shown(alloc: Global, status: u16) -> Option<String> {
     format!(in alloc; "{status}").ok()
 }
 
-/// Shows the action, name, face, cost, count and strategy of a command.
+/// Shows the fields `action`, `name`, `face`, `cost`, `count` and `strategy` of a command.
 fn fields_shown(alloc: Global, command: &Command<'_>) -> Option<String> {
     let (action, name) = (action_shown(command.action), command.name);
     let (face, cost) = (command.face, command.cost);
@@ -213,8 +213,8 @@ fn octets_shown(alloc: Global, status: u16, body: &[u8], list: &[u8]) -> Option<
     format!(in alloc; "{status} {body} {list}").ok()
 }
 
-/// Adds routes to the face from which the command came, to another face that is up, and to a face
-/// that is not up. A reply with status 200 contains the face of the route.
+/// Tries to add next hops on the face from which the command came, on another face that is up, and
+/// on a face that is not up. A reply with status 200 contains the face of the next hop.
 #[test]
 fn a_route_needs_an_open_face(rt: HostRuntime) {
     let rows = "
@@ -244,8 +244,8 @@ fn a_strategy_is_known_by_its_name(rt: HostRuntime) {
     check_rows(&rt, rt.alloc(), rows, applied_shown);
 }
 
-/// Adds routes for prefixes of 32 and of 33 components. A prefix that is too long gets status 414,
-/// even if the face is not up.
+/// Tries to add next hops for prefixes of 32 and of 33 components. A prefix that is too long gets
+/// status 414, even if the face is not up.
 #[test]
 fn prefixes_of_32_components(rt: HostRuntime) {
     let rows = "

@@ -88,8 +88,8 @@ fn answered(alloc: Global, repo: &mut Repo, name: Name<'_>, now: u64) -> Option<
     reply_shown(alloc, &repo.command(name, now).ok()?)
 }
 
-/// Applies a command with this verb, and shows the reply. `words` are the name in the command, the
-/// time, and perhaps a lifetime.
+/// Applies a command with this verb, and shows the reply. `words` are the Name in the command's
+/// parameters (a `*` after it means CanBePrefix), the time, and perhaps a lifetime.
 fn command(alloc: Global, repo: &mut Repo, verb: &str, words: &str) -> Option<String> {
     let mut words = words.split(' ');
     let asked = words.next()?;
@@ -439,8 +439,8 @@ fn verb_in(repo: &Repo, name: Name<'_>) -> &'static str {
     }
 }
 
-/// Returns the verb of a name for a repository with the prefix `/repo`, or `none` if the name has
-/// no verb.
+/// Returns the verb that a repository with the prefix `/repo` finds in a name, or `none` if there
+/// is no verb.
 fn verb_shown(alloc: Global, uri: &str) -> Option<String> {
     let name = NameBuf::from_uri(alloc, uri).ok()?;
     String::from_str(alloc, verb_in(&empty_repo(alloc)?, name.view())).ok()

@@ -357,7 +357,7 @@ fn is_told(alloc: Global, fault: Fault, wanted: &str) -> bool {
     format!(in alloc; "{} {fault}", fault.exit_status()).is_ok_and(|told| told.as_str() == wanted)
 }
 
-/// A file cannot be read. Returns whether the message of this fault contains the file and the
+/// A file cannot be read. Returns whether the message of this fault names the file and the
 /// cause.
 fn unread_is_told(alloc: Global) -> Option<bool> {
     let fault = Fault::Unread {

@@ -121,7 +121,8 @@ fn written(
     )
 }
 
-/// The log has a line for a dropped packet, but no line for the face that opens for this packet.
+/// If the log does not show all events, it has a line for a dropped packet, but no line for the
+/// face that opens for this packet.
 #[test]
 fn log_of_what_is_dropped(rt: HostRuntime) {
     let held = Cell::new(0);
@@ -134,7 +135,8 @@ fn log_of_what_is_dropped(rt: HostRuntime) {
     assert!(rt; held.get() == 1);
 }
 
-/// The log has no line for plain forwarding, such as an Interest that is answered by a Nack.
+/// If the log does not show all events, it has no line for a plain event (`ndn_log::is_plain`),
+/// such as an Interest that is answered by a Nack.
 #[test]
 fn log_without_plain_forwarding(rt: HostRuntime) {
     let held = Cell::new(0);

@@ -1,4 +1,4 @@
-//! Tests of the shortening of a journal. The meaning of the commands determines which lines must
+//! Tests of the shortening of a journal. The meaning of the events determines which lines must
 //! stay.
 
 use journal_shortening::{ShortenFault, ShorterJournal, shortened};
@@ -26,8 +26,9 @@ fn has_text(made: Result<Option<ShorterJournal>, ShortenFault>, text: &str) -> b
     matches!(made, Ok(Some(shorter)) if shorter.text.as_slice() == text.as_bytes())
 }
 
-/// Returns whether shortening gives this text and these two numbers: `lines` is the number of lines
-/// of the journal, and `kept` is the number of lines that are kept.
+/// Returns whether shortening gives this text and these two numbers: `lines` is the number of whole
+/// lines of the journal, and `kept` is the number of these lines that are kept. A line `tick` that
+/// the shortening adds at the end is not counted.
 fn becomes(alloc: Global, journal: &str, lines: usize, kept: usize, text: &str) -> bool {
     matches!(made(alloc, "/repo", journal), Ok(Some(shorter)) if shorter.lines == lines
         && shorter.kept == kept
@@ -69,8 +70,8 @@ fn a_journal_becomes_shorter(rt: HostRuntime) {
     assert!(rt; fault_of(alloc, "/repo", packet) == Some(ShortenFault::NotJournalled(2)));
 }
 
-// In the journals of the tests below, `ask FACE MOMENT SIGNER NAME` stands for a signed command,
-// and `data FACE MOMENT NAME` for a Data. `rules MOMENT` stands for rules that allow every command
+// In the lines of the tests below, `ask FACE MOMENT SIGNER NAME` stands for a signed command, and
+// `data FACE MOMENT NAME` for a Data. `rules MOMENT` stands for rules that allow every command
 // that is signed with a key of the sample key file, and all Data that are signed with a digest.
 
 const RULES: &str = "rule
@@ -101,7 +102,7 @@ rule
 }
 ";
 
-/// Returns the word at index `i` of a line. The first word has index 0.
+/// Returns the word at index `i` of a line, counted from 0, or `""` if the line has no such word.
 fn word(line: &str, i: usize) -> &str {
     line.split(' ').nth(i).unwrap_or("")
 }
@@ -294,8 +295,9 @@ fn strategies(rt: HostRuntime) {
     keeps_marked(&rt, STRATEGIES);
 }
 
-/// If a Data is still stored at the end of the journal, two lines stay: the line of the Data, and
-/// the line of the insert that asked for it.
+/// If a Data is still stored at the end of the journal, the line of the Data stays, and so does the
+/// line of the insert that asked for it. The second insert stays because it is the last command of
+/// its signer.
 const A_DATA_THAT_STAYS: &str = "* rules 900
 * up 1 local 1000
 * up 2 far 1000

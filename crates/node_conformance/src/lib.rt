@@ -1,4 +1,4 @@
-//! Tests of the node's public calls. Most of these tests are dialogues of events and answers.
+//! Tests of a node through public functions. Many of them are dialogues of events and answers.
 #![tactic(auto)]
 
 #[cfg(test)]

@@ -1,4 +1,4 @@
-//! Tests that play scripts on a node, tests that call the steps of a node, and tests of the ports
+//! Tests that play scripts on a node, tests that call the methods of a node, and tests of the ports
 //! and the journal of a node.
 
 mod cache;
@@ -78,7 +78,7 @@ fn sample_outcome(alloc: Global, script: &str) -> Option<String> {
 }
 
 // A dialogue is a script in which each event is followed by its answer, and in which words may
-// stand for packets.
+// stand for packets and sample files.
 
 /// Returns whether a line of a dialogue belongs to an answer, such as `3 passed` or `> 2 INTEREST`.
 fn is_answer(line: &str) -> bool {
@@ -120,8 +120,8 @@ fn push_spelled(alloc: Global, text: &mut String, word: &str) -> Option<()> {
     }
 }
 
-/// Appends a line of a dialogue in which each word that stands for a packet or a sample file is
-/// replaced by its hexadecimal. Returns `None` if memory runs out.
+/// Appends a line of a dialogue, with each word that stands for a packet or a sample file replaced
+/// by the octets of the packet or file in hexadecimal. Returns `None` if memory runs out.
 fn push_spelled_line(alloc: Global, text: &mut String, line: &str) -> Option<()> {
     for (before, word) in line.split(' ').enumerate() {
         if before > 0 {
@@ -140,8 +140,8 @@ fn push_spelled_lines(alloc: Global, text: &mut String, dialogue: &str) -> Optio
     Some(())
 }
 
-/// Returns a dialogue in which each word that stands for a packet or a sample file is replaced by
-/// its hexadecimal.
+/// Returns a dialogue, with each word that stands for a packet or a sample file replaced by the
+/// octets of the packet or file in hexadecimal.
 fn spelled(alloc: Global, dialogue: &str) -> Option<String> {
     let mut text = String::new(alloc);
     push_spelled_lines(alloc, &mut text, dialogue)?;

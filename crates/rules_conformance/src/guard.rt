@@ -181,7 +181,7 @@ prepare /k, prepare /l, /k 0 0, ? /k 0 1 0 -> no
 }
 
 /// Prepares a recording for a signer, and then records two commands of this signer. Returns whether
-/// both commands are recorded, and the first command is not fresh after it was recorded. If the
+/// both commands are recorded and the first command is not fresh after it was recorded. If the
 /// preparation fails, returns whether the first command is still fresh.
 fn keeps_its_promise(alloc: Global) -> Option<bool> {
     let key = key_in(alloc, "/k")?;

@@ -63,8 +63,8 @@ fn limit_in(text: &str) -> Option<Option<u64>> {
     Some(Some(text.parse().ok()?))
 }
 
-/// Erases Data, and returns the number of erased Data. `words` are a name and then a limit. The
-/// limit is the greatest number of Data to erase, or `all`.
+/// Erases Data whose full names begin with a name, and returns the number of erased Data. `words`
+/// are this name and then a limit. The limit is the greatest number of Data to erase, or `all`.
 fn erase(alloc: Global, store: &mut Store, words: &str) -> Option<u64> {
     let (uri, limit) = words.split_once(' ')?;
     let limit = limit_in(limit)?;
@@ -148,9 +148,9 @@ fn store_capacities(rt: HostRuntime) {
     check_rows(&rt, rt.alloc(), rows, answers);
 }
 
-/// When a Data is put into a full store, the least recently used Data is evicted. If the store has
-/// a Data with the same full name as the new Data, the new Data replaces that Data, and no Data is
-/// evicted.
+/// When a Data with a new full name is put into a full store, the least recently used Data is
+/// evicted. A Data with the same full name as a cached Data replaces the cached Data, and no Data
+/// is evicted.
 #[test]
 fn eviction_order(rt: HostRuntime) {
     let rows = "
@@ -300,8 +300,8 @@ fn is_held(store: &mut Store, packet: &[u8], most: u64) -> Option<bool> {
     }
 }
 
-/// Puts a Data for each number from 0 to `last` into a store, and returns whether all of them are
-/// cached. Afterwards, `packet` encodes the Data with the number `last`.
+/// Puts a Data for each number from 0 to `last` into a store, and returns whether each call of
+/// `Store::put` caches its Data. Afterwards, `packet` encodes the Data with the number `last`.
 fn put_numbers(store: &mut Store, packet: &mut [u8], last: u32) -> Option<bool> {
     for number in 0..=last {
         put_number(packet, number);

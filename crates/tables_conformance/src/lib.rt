@@ -1,5 +1,5 @@
 //! Tests of the tables of next hops, registered routes, strategies and pending Interests. Also
-//! tests of the next hops that strategies choose, and of the cache.
+//! tests of the next hops that strategies choose, and of the content store.
 #![tactic(auto)]
 
 #[cfg(test)]

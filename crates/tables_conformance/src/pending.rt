@@ -150,7 +150,7 @@ fn number_in(text: &str) -> Option<(u64, &str)> {
     Some((number.parse().ok()?, rest))
 }
 
-/// Reads up to four numbers. The numbers that `text` lacks are 0.
+/// Reads one to four numbers. The numbers that `text` lacks are 0.
 fn numbers_in(text: &str) -> Option<Numbers> {
     let (face, rest) = number_in(text)?;
     let (first, rest) = number_in(rest)?;
@@ -266,7 +266,8 @@ fn put_of_packet(
 }
 
 /// Runs a call for a Data with an empty Content, and appends the answer. The first word of `words`
-/// is the Data's name. The answer to `data NAME` and to `askers NAME` is a list of faces. The
+/// is the Data's name. The answer to `data NAME` and to `askers NAME` is the faces with a pending
+/// Interest that the Data answers. `data` removes these Interests, and `askers` does not. The
 /// answer to `token_for NAME FACE` is the token that the face gets with the Data.
 fn put_of_name(
     alloc: Global,
@@ -318,7 +319,7 @@ fn is_so(table: &mut Table, call: &str, key: Key<'_>, numbers: Numbers) -> Optio
     }
 }
 
-/// Runs a call that names a key, and returns the answer, which is one word. The call is
+/// Runs a call that names a key, and returns the answer: `yes`, `no` or `-`. The call is
 /// `withdraw KEY FACE`, `remove KEY`, or a call that `is_so` runs.
 fn word_of(table: &mut Table, call: &str, key: Key<'_>, numbers: Numbers) -> Option<&'static str> {
     match call {
@@ -485,7 +486,8 @@ fn remove_numbered(alloc: Global, table: &mut Table, number: u16) -> Option<()> 
 }
 
 /// Runs many rounds. Each round records an Interest under one of 4,096 keys, and removes the
-/// Interest that was recorded 64 rounds earlier. Returns whether each Interest is recorded.
+/// Interest, if any, that was recorded 64 rounds earlier. Returns whether each Interest is
+/// recorded.
 fn runs_rounds(alloc: Global, table: &mut Table) -> Option<bool> {
     for round in 0..ROUNDS {
         let number = u16::try_from(round % 4096).ok()?;

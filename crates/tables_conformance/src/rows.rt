@@ -1,4 +1,4 @@
-//! Helpers for tests that are written as rows. A wrong row makes the test fail.
+//! A helper for tests that are written as rows. A wrong row makes the test fail.
 
 use std::alloc::Global;
 use std::process::Abort;

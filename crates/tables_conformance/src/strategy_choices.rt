@@ -185,9 +185,10 @@ all: / 2 5, / 3 0; - - 1009; 7@1000 -> send 2 3
     check_rows(&rt, rt.alloc(), rows, choice);
 }
 
-/// Best-route chooses the next hop whose last use is the earliest. If several next hops were not
-/// used, or were last used at the same moment, best-route chooses the one with the least cost. If
-/// several of them have the least cost, best-route chooses the one with the least face.
+/// Best-route chooses a next hop that was not used. If all next hops were used, best-route chooses
+/// a next hop whose last use is the earliest. If there are several such next hops, best-route
+/// chooses the one with the least cost. If several of them have the least cost, best-route chooses
+/// the one with the least face.
 #[test]
 fn best_route_takes_the_least_hop(rt: HostRuntime) {
     let rows = "

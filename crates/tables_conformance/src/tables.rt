@@ -209,8 +209,8 @@ fn set_strategies(alloc: Global, table: &mut StrategyTable, calls: &str) -> Opti
     Some(())
 }
 
-/// Returns the table of strategies after the calls in `text`. For example, the call `/A multicast`
-/// sets the strategy of `/A`, and `/A -` removes the strategy of `/A`.
+/// Runs the calls in `text` on a new table of strategies, and returns the table. For example, the
+/// call `/A multicast` sets the strategy of `/A`, and `/A -` removes the strategy of `/A`.
 fn strategies_in(alloc: Global, text: &str) -> Option<StrategyTable> {
     let mut table = StrategyTable::new(alloc);
     set_strategies(alloc, &mut table, text)?;
@@ -285,7 +285,7 @@ fn longest_prefix_with_a_strategy(rt: HostRuntime) {
     check_rows(&rt, rt.alloc(), rows, strategy);
 }
 
-/// A name has the strategy that was set last for this name.
+/// A strategy that is set for a name replaces the older strategy of this name.
 #[test]
 fn the_last_strategy_set_counts(rt: HostRuntime) {
     let rows = "
@@ -295,7 +295,7 @@ fn the_last_strategy_set_counts(rt: HostRuntime) {
     check_rows(&rt, rt.alloc(), rows, strategy);
 }
 
-/// A strategy can be removed, but the strategy of `/` stays.
+/// A strategy can be removed, but a removal of the strategy of `/` has no effect.
 #[test]
 fn the_empty_name_keeps_its_strategy(rt: HostRuntime) {
     let rows = "
@@ -308,7 +308,7 @@ fn the_empty_name_keeps_its_strategy(rt: HostRuntime) {
     check_rows(&rt, rt.alloc(), rows, strategy);
 }
 
-/// The list of strategies is in canonical order.
+/// The list of names with strategies is in canonical order.
 #[test]
 fn strategies_in_canonical_order(rt: HostRuntime) {
     let rows = "

@@ -553,8 +553,8 @@ fn list_of_4096_routes(rt: HostRuntime) {
     assert!(rt; played(rt.alloc(), lists_4096_routes) == Some(true));
 }
 
-/// Adds a route so that the dataset has `len` octets. Returns whether the dataset has this length,
-/// and its last segment has the number `last` and has `last_len` octets.
+/// Adds a route so that the dataset of routes has `len` octets. Returns `true` if the dataset has
+/// this length and if its last segment has the number `last` and `last_len` octets.
 fn is_cut(
     alloc: Global,
     station: &mut Station,
@@ -634,8 +634,8 @@ fn reads_the_packet(alloc: Global) -> Option<bool> {
     adds_to_2(&packet, name.view())
 }
 
-/// Returns whether the packet's name is an add-nexthop command. The command must have the name
-/// `name`, the face 2 and the cost 0.
+/// Returns whether the packet's name is read as an add-nexthop command with the face 2 and the cost
+/// 0. The field `name` of this command must be equal to the parameter `name`.
 fn adds_to_2(packet: &[u8], name: Name<'_>) -> Option<bool> {
     let interest = interest_in(packet)?;
     let command = Command::read(interest.name).ok()?;

@@ -6,8 +6,8 @@ use crate::rows::check_rows;
 use mgmt_core::*;
 use std::alloc::Global;
 
-/// Shows a command for a registered route: the command's action, name, face, origin, cost, flags
-/// and expiration period. If the command is refused, shows the status instead.
+/// Shows the fields `action`, `name`, `face`, `origin`, `cost`, `flags` and `expires` of a command.
+/// If the command is refused, shows the status instead.
 fn route_shown(alloc: Global, row: &str) -> Option<String> {
     let name = name_in(alloc, row)?;
     match Command::read(name.view()) {
@@ -16,7 +16,7 @@ fn route_shown(alloc: Global, row: &str) -> Option<String> {
     }
 }
 
-/// Shows the action, name, face, origin, cost, flags and expiration period of a command.
+/// Shows the fields `action`, `name`, `face`, `origin`, `cost`, `flags` and `expires` of a command.
 fn fields_shown(alloc: Global, command: &Command<'_>) -> Option<String> {
     let (action, name) = (action_shown(command.action), command.name);
     let (face, origin, cost) = (command.face, command.origin, command.cost);
@@ -46,7 +46,8 @@ fn fields_of_routes(rt: HostRuntime) {
 }
 
 /// A command is refused with status 400 if it has a field of a wrong form, lacks a required field,
-/// or has a field that it does not take. The command `rib/list` does not exist.
+/// or has a field that it does not take. The command `rib/list` does not exist, so it is refused
+/// with status 501.
 #[test]
 fn fields_that_routes_need_and_take(rt: HostRuntime) {
     let rows = "

@@ -31,8 +31,8 @@ fn fills(repo: &mut Repo, number: u32) -> bool {
 }
 
 /// Returns whether the repository accepts 65,536 objects and wants in total, and then refuses a
-/// further want. A want that is equal to a pending want must be accepted, and so must an insert
-/// with the name of a stored Data.
+/// further want. A want that is equal to a pending want must be accepted, and so must an insert for
+/// the name of a stored Data.
 fn holds_so_many(repo: &mut Repo) -> bool {
     for number in 0..65_535 {
         if !inserts(repo, number, 100) || !fills(repo, number) {

@@ -212,8 +212,8 @@ fn offer_agrees(all: &[Made], repo: &mut Repo, plain: &mut Plain, state: &mut u6
     Some(repo.offer(&data).ok()? == is_filled)
 }
 
-/// Returns whether the repository serves `expected` for the Interest in `packet`. `None` means that
-/// the repository serves nothing.
+/// Returns whether the repository serves `expected` for the Interest in `packet`. If `expected` is
+/// `None`, the repository must serve nothing.
 fn is_served(repo: &Repo, packet: &[u8], expected: Option<&[u8]>) -> Option<bool> {
     let interest = interest_in(packet)?;
     Some(repo.serve(&interest) == expected)

@@ -32,8 +32,8 @@ insert /A 0, insert /A* 0, insert /B 0, offer /A 01, offer /A 02, check /A 0, de
     check_rows(&rt, rt.alloc(), rows, answers);
 }
 
-/// A check and a delete count each object that answers the Interest in the command. The delete also
-/// removes these objects.
+/// A check and a delete count each object that answers an Interest with the Name and the
+/// CanBePrefix flag in the command's parameters. The delete also removes these objects.
 #[test]
 fn each_object_that_answers_is_counted(rt: HostRuntime) {
     let rows = "

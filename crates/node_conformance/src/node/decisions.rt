@@ -94,7 +94,7 @@ in 1 1000000 ADD_NEXT
 ";
 
 /// A command is allowed only once. Each further command of its signer must have a later time. A
-/// denied command is answered, and changes nothing.
+/// denied command is answered, but its time is not recorded.
 #[test]
 fn signed_commands(rt: HostRuntime) {
     replies(&rt, SIGNED_COMMANDS);

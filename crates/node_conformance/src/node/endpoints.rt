@@ -13,7 +13,7 @@ fn loopback(port: u16) -> SocketAddr {
     SocketAddr::from((Ipv4Addr::LOCALHOST, port))
 }
 
-/// Returns a socket that is bound to this port of 127.0.0.2.
+/// Returns a socket that is bound to this port of 127.0.0.2, or to a free port if `port` is 0.
 fn bound_elsewhere(rt: &impl Net, port: u16) -> Option<UdpSocket> {
     UdpSocket::bind(rt, (Ipv4Addr::new(127, 0, 0, 2), port)).ok()
 }

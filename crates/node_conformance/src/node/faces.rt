@@ -51,9 +51,9 @@ fn face_events(rt: HostRuntime) {
     replies(&rt, FACE_EVENTS);
 }
 
-/// Appends to `script` lines that open 64 faces, try to open face 65, close face 1, and try to open
-/// face 65 again. Appends to `wanted` the outcome that the script must have. Returns `None` if
-/// memory runs out.
+/// Appends lines to `script`. The lines open 64 faces, try to open face 65, close face 1, and try
+/// to open face 65 again. Appends to `wanted` the outcome that the script must have. Returns `None`
+/// if memory runs out.
 fn put_65_faces(script: &mut String, wanted: &mut String) -> Option<()> {
     for face in 1..65 {
         writeln!(script, "up {face} far 0").ok()?;

@@ -5,9 +5,9 @@ use super::sample_outcome;
 use std::alloc::Global;
 use std::fmt::Write;
 
-/// Appends a script with 4,096 Interests of different names, which come from face 1. Two further
-/// Interests follow: one of a new name from face 1, and one of a known name from face 3. Returns
-/// `None` if memory runs out.
+/// Appends a script in which 4,096 Interests with different names come from face 1. Two further
+/// Interests follow: one from face 1 has a new name, and one from face 3 has the first of the 4,096
+/// names. Returns `None` if memory runs out.
 fn put_script(script: &mut String) -> Option<()> {
     script
         .push_str("up 1 local 1000000\nup 2 far 1000000\nup 3 far 1000000\nin 1 1000000 ")

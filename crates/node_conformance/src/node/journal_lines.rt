@@ -58,16 +58,16 @@ fn has_line(alloc: Global, len: usize) -> Option<bool> {
     Some(line_of(alloc, 1000, &entry).is_ok())
 }
 
-/// A line of a journal has at most 20,000 octets without its LF. The lines of this test consist of
-/// `rules 1000 `, the octets of the rules in hexadecimal, and ` -`.
+/// A line of a journal has at most 20,000 octets, not counting its LF. The lines of this test
+/// consist of `rules 1000 `, the octets of the rules in hexadecimal, and ` -`.
 #[test]
 fn longest_lines(rt: HostRuntime) {
     assert!(rt; has_line(rt.alloc(), 9_993) == Some(true));
     assert!(rt; has_line(rt.alloc(), 9_994) == Some(false));
 }
 
-/// Appends the line of an event to an empty file, and returns the file. The event has this verdict
-/// and the time 1000.
+/// Calls `append_event` for an event and an empty file, and returns the file. The event has this
+/// verdict and the time 1000.
 fn file_after(alloc: Global, entry: Entry<'_>, verdict: Verdict) -> Option<MemoryFile> {
     let mut file = MemoryFile {
         octets: Vec::new(alloc),
@@ -81,7 +81,7 @@ fn file_after(alloc: Global, entry: Entry<'_>, verdict: Verdict) -> Option<Memor
     Some(file)
 }
 
-/// Returns whether appending an event with this verdict writes exactly these octets.
+/// Returns whether `append_event` writes exactly these octets for an event with this verdict.
 fn appends(alloc: Global, entry: Entry<'_>, verdict: Verdict, octets: &[u8]) -> bool {
     file_after(alloc, entry, verdict).is_some_and(|file| file.octets.as_slice() == octets)
 }
@@ -160,7 +160,7 @@ fn fronts_of_a_journal(rt: HostRuntime) {
     }
 }
 
-/// Returns the number of the open face at index `i`.
+/// Returns the number of the open face at index `i`, or `None` if there is no such face.
 fn face_at(node: &Node, i: usize) -> Option<u64> {
     let (face, _) = node.open_face(i)?;
     Some(face)

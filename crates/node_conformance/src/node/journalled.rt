@@ -58,7 +58,7 @@ fn served(
 }
 
 /// Plays the events of a dialogue on a node. Returns whether the node's journal then consists of
-/// `lines`. In `lines`, words stand for packets.
+/// `lines`. In `lines`, words may stand for packets.
 fn keeps_journal(alloc: Global, node: &mut Node, dialogue: &str, lines: &str) -> Option<bool> {
     let wanted = spelled(alloc, lines)?;
     let ports = served(alloc, node, dialogue, 1000, None)?;
@@ -91,9 +91,9 @@ fn journal_of_a_life(rt: HostRuntime) {
 }
 
 /// In this dialogue, only the first event and the last event are journalled. Each of these two
-/// events opens a face. The last event has an earlier time than all other events. The other events
-/// are the opening of an open face, the closing of a face that is not open, a denied command, a
-/// Data that the repository does not want, and a tick.
+/// events opens a face. The last event has an earlier time than all other events. Between the first
+/// and the last event come the opening of an open face, the closing of a face that is not open, a
+/// denied command, a Data that the repository does not want, and a tick.
 const MOSTLY_DENIED: &str = "
 up 1 local 1000000
 1 passed

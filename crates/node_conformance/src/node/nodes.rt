@@ -57,7 +57,7 @@ fn parts_of_a_node(rt: HostRuntime) {
     assert!(rt; first_wrong(rt.alloc(), PARTS, is_made) == 0);
 }
 
-/// Returns whether face 1 opens.
+/// Opens the Far face 1 of a node. Returns whether the step succeeds.
 fn opens(node: &mut Node, outbox: &mut Outbox) -> bool {
     let up = Event::FaceUp {
         face: 1,

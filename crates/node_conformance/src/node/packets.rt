@@ -67,9 +67,9 @@ in 2 1000000 -
 8 dropped Malformed Tlv Truncated
 ";
 
-/// A packet in a link packet is handled like the packet without the link packet. A link packet is
-/// dropped if it has an unknown critical field, has a fragment of a packet, or has no packet. A
-/// packet without octets is dropped.
+/// If an Interest comes in a link packet with an unknown field that is not critical, the Interest
+/// is forwarded without the link packet. A link packet is dropped if it has an unknown critical
+/// field, has a fragment of a packet, or has no packet. A packet without octets is dropped.
 #[test]
 fn link_packets(rt: HostRuntime) {
     replies(&rt, LINK_PACKETS);

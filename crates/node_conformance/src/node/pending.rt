@@ -76,7 +76,8 @@ in 3 1000000 D_AB
 ";
 
 /// A Data with a longer name answers an Interest with CanBePrefix. A Data is not sent back to the
-/// face from which it came. However, the Interest of this face is no longer pending.
+/// face from which it came. However, if it answers an Interest of this face, the Interest is no
+/// longer pending.
 #[test]
 fn data_answers(rt: HostRuntime) {
     replies(&rt, DATA_ANSWERS);
@@ -104,7 +105,8 @@ in 1 1001010 INTEREST
 ";
 
 /// An Interest that loops is answered by a Nack with the reason Duplicate. If a face repeats its
-/// pending Interest, the Interest is forwarded again after 10 milliseconds, but not after 9.
+/// pending Interest 10 milliseconds after the Interest was forwarded, the Interest is forwarded
+/// again. If the face repeats it after only 9 milliseconds, the Interest is not forwarded again.
 #[test]
 fn loops_and_retries(rt: HostRuntime) {
     replies(&rt, LOOPS_AND_RETRIES);

@@ -25,7 +25,7 @@ in 2 1060 060f070308014115017816031b01001700
 5 denied data Tag any-data
 ";
 
-/// Returns the word at index `i` of a line, counted from 0.
+/// Returns the word at index `i` of a line, counted from 0, or `""` if the line has no such word.
 pub fn word(line: &str, i: usize) -> &str {
     line.split(' ').nth(i).unwrap_or("")
 }
@@ -129,8 +129,8 @@ fn arrival_of(alloc: Global, line: &str) -> Option<OwnedArrival> {
     }
 }
 
-/// Appends the arrival that a line of a script spells, unless the line is empty. Returns `None` if
-/// the line spells no arrival, or memory runs out.
+/// Appends the arrival that a line of a script spells. Appends nothing for an empty line. Returns
+/// `None` if any other line spells no arrival, or if memory runs out.
 fn push_arrival(alloc: Global, arrivals: &mut Vec<OwnedArrival>, line: &str) -> Option<()> {
     if line.is_empty() {
         return Some(());
@@ -203,10 +203,10 @@ pub fn prints(alloc: Global, node: &mut Node, dialogue: &str, wanted: &str) -> O
     Some(text.as_slice() == wanted.as_bytes())
 }
 
-/// Serves a node with the events of `FIRST_PATH` for `turns` turns, and returns whether the result
-/// is `wanted`. In the port, call number `next` of the method `next` fails, and call number `send`
-/// of the method `send` fails. If `next` is 0, no call of the method `next` fails. If `send` is 0,
-/// no call of the method `send` fails.
+/// Serves a node with the events of `FIRST_PATH` for at most `turns` turns, and returns whether the
+/// result is `wanted`. The `next`th call of the port's method `next` fails, and so does the
+/// `send`th call of the method `send`. If `next` is 0, no call of the method `next` fails. If
+/// `send` is 0, no call of the method `send` fails.
 fn node_serves(
     alloc: Global,
     node: &mut Node,
@@ -282,8 +282,8 @@ fn goes_on(alloc: Global, next: u64, before: u64, left: u64) -> Option<bool> {
     )
 }
 
-/// Returns what `stops_and_ends` returns for a port with the events of `FIRST_PATH`. Call number
-/// `next` of the port's method `next` fails.
+/// Returns what `stops_and_ends` returns for a port with the events of `FIRST_PATH`. The `next`th
+/// call of the port's method `next` fails.
 fn node_goes_on(alloc: Global, node: &mut Node, next: u64, before: u64, left: u64) -> Option<bool> {
     let mut ports = ports_of(alloc, FIRST_PATH)?;
     ports.fail_next(next);

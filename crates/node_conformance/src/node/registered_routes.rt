@@ -1,5 +1,5 @@
-//! Routes that are registered, and how they expire. A generator of test packets knows the formats
-//! of packets. It computed the packets and the answers in the dialogues of this file.
+//! Tests of registered routes, and of how they expire. A program that knows the formats of packets
+//! computed the packets and the answers in the dialogues of this file.
 
 use super::replies;
 

@@ -65,8 +65,8 @@ in 1 1000000 LIST_2
 ";
 
 /// A command can set a route only on an open face. The version of the list of routes increases with
-/// each allowed command, and when the face of a route closes. An Interest is dropped if it asks for
-/// an older version of the list, or for a segment that the list does not have.
+/// each allowed command under `/localhost/nfd`, and when a face closes. An Interest is dropped if
+/// it asks for an older version of the list, or for a segment that the list does not have.
 #[test]
 fn route_command_and_list(rt: HostRuntime) {
     replies(&rt, ROUTE_COMMAND_AND_LIST);

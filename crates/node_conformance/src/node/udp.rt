@@ -283,7 +283,7 @@ fn udp_soon(rt: HostRuntime) {
     assert!(rt; waits_for_a_short_time(&rt) == Some(true));
 }
 
-/// Returns the ports 1 to 64.
+/// Returns the port numbers 1 to 64.
 fn sixty_four_ports(alloc: Global) -> Option<Vec<u16>> {
     let mut ports = Vec::new(alloc);
     for port in 1..65 {
@@ -703,7 +703,7 @@ fn is_room_made(rt: &(impl AllocGlobal + Net), moment: &Cell<u64>) -> Option<boo
     makes_room(rt, &mut ports, moment, listen)
 }
 
-/// A face that was silent for 10 seconds closes to make room for the face of a 65th port, but a
+/// A face that was silent for 10 seconds closes to make room for the face of a 65th endpoint, but a
 /// face that was silent for 9,999 milliseconds stays open.
 #[test]
 fn udp_gives_way(rt: HostRuntime) {

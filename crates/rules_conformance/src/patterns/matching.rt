@@ -8,8 +8,8 @@ use ndn_names::{Name, NameBuf};
 use std::alloc::Global;
 use test_support::first_wrong;
 
-/// Shows the captured groups, beginning with group 0. Each group is shown as the index of its first
-/// component and the index after its last component, as in `0-5 0-3 4-5`.
+/// Shows the captured groups, beginning with group 0. Each group is shown as the number of
+/// components before its start and the number of components before its end, as in `0-5 0-3 4-5`.
 fn shown(alloc: Global, captures: &Captures) -> Option<String> {
     let mut shown = String::new(alloc);
     put_groups(&mut shown, captures)?;

@@ -267,8 +267,8 @@ const INNER: &str = r"
 <a|>{2} → Inner(0)
 ";
 
-/// In a pattern, a component that contains one of the signs `( ) [ ] { } * + ? ^ $ \ |` has the
-/// fault `Inner`.
+/// If the only fault of a pattern is that the text of a component contains one of the signs
+/// `( ) [ ] { } * + ? ^ $ \ |`, this fault is reported as `Inner`.
 #[test]
 fn inner(rt: HostRuntime) {
     assert_right(&rt, first_wrong(rt.alloc(), INNER, is_read_so));

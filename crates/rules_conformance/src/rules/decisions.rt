@@ -83,7 +83,7 @@ fn signed_octets(alloc: Global, kind: &str, name: Name<'_>, signer: &str) -> Opt
     written(alloc, kind, name, sign_by(key_name.view(), key.as_bytes()))
 }
 
-/// Returns the Interest or the Data in a frame, or `None` if the frame has neither.
+/// Returns the Interest or the Data that a frame consists of, or `None` for any other frame.
 fn packet_of<'a>(frame: &'a Frame<'a>) -> Option<Packet<'a>> {
     match frame {
         Frame::Interest(interest) => Some(Packet::Interest(interest)),
@@ -164,14 +164,15 @@ fn is_decided_so(alloc: Global, file: &str, row: &str) -> bool {
     told_of(alloc, file, KEYS, packet).is_some_and(|told| told.as_str() == wanted)
 }
 
-/// Returns the line of the first row that is wrong for this rule file, or 0 if no row is wrong.
+/// Returns the line of the first row that is wrong for this rule file. Returns 0 if there are rows
+/// and no row is wrong, and 1 if there are no rows.
 pub fn first_wrong_under(alloc: Global, file: &str, rows: &str) -> usize {
     first_wrong(alloc, rows, |alloc, row| is_decided_so(alloc, file, row))
 }
 
 /// Returns the line of the first wrong row in a text of one or more rule files, or 0 if no row is
-/// wrong. Each file is one line, followed by its rows. An empty line separates two files. The text
-/// begins with an empty line, which is line 1.
+/// wrong. A file without rows counts as a wrong row. Each file is one line, followed by its rows.
+/// An empty line separates two files. The text begins with an empty line, which is line 1.
 fn first_wrong_of(alloc: Global, files: &str) -> usize {
     let mut lines = 1usize;
     for file in files.trim_matches('\n').split("\n\n") {
@@ -317,8 +318,8 @@ rule {␊ id a␊ for data␊ checker {␊ type customized␊ sig-type hmac-sha2
 data /A by /ops/KEY/1 kez → denied 0 Tag
 ";
 
-/// If several checkers refuse a packet, their reasons may differ. The decision reports the reason
-/// that comes last in the enum `Reason`.
+/// If several checkers refuse a packet, their reasons may differ. Of these reasons, the decision
+/// reports the one that comes last in the enum `Reason`.
 #[test]
 fn the_greatest_reason(rt: HostRuntime) {
     assert_right(&rt, first_wrong_of(rt.alloc(), GREATEST_REASON));
@@ -373,8 +374,9 @@ octets 0567072508014102204b517d4208fcf6ccf88fa54794a0898bf87bd1bd363776b41a1ffc2
 interest /A by /ops/KEY/1 key → denied 0 KeyLocator
 ";
 
-/// A rule without checkers denies every signed Interest. The reason is `Shape` if the Interest has
-/// no SignatureTime, and `KeyLocator` otherwise.
+/// A rule without checkers denies every signed Interest to which it applies. The reason is `Shape`
+/// if the Interest has no SignatureTime or if the parameters digest is not last in its name, and
+/// `KeyLocator` otherwise.
 #[test]
 fn signed_interests(rt: HostRuntime) {
     assert_right(&rt, first_wrong_of(rt.alloc(), SIGNED_INTERESTS));
@@ -524,9 +526,10 @@ fn is_ops_decided(alloc: Global, keys: &str, wanted: &str) -> bool {
     told_of(alloc, KEY_OF_NAME_OPS_KEY, keys, packet).is_some_and(|told| told.as_str() == wanted)
 }
 
-/// An Interest's signature covers the name before the parameters digest, and all octets from the
-/// start of the ApplicationParameters. If the key file has other octets for the key, the tag is
-/// wrong. If the key file has no line for the key, the key is unknown.
+/// An Interest's signature covers the name before the parameters digest, and the octets from the
+/// start of the ApplicationParameters to the start of the InterestSignatureValue. If the key file
+/// has other octets for the key, the tag is wrong. If the key file has no line for the key, the key
+/// is unknown.
 #[test]
 fn both_parts_are_covered(rt: HostRuntime) {
     assert!(rt; is_ops_decided(rt.alloc(), "/ops/KEY 6b6579", "allowed 0"));

@@ -393,7 +393,7 @@ any data /repo → rule 2
 any data / → rule 2
 ";
 
-/// Returns whether `SAMPLE` has three rules, and the rule with this number has this id.
+/// Returns `true` if `SAMPLE` has three rules and the rule with this number has this id.
 fn has_id(alloc: Global, number: usize, id: &str) -> bool {
     let Ok(rules) = rules_of(alloc, SAMPLE) else {
         return false;

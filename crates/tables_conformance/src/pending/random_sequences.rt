@@ -17,8 +17,8 @@ const KEYS: [&str; 6] = [
     "/A/sha256digest=2d92a383706a615fe67c9a585b00f29c5c06d2abdaec456e9cdc026679eb2479",
 ];
 
-/// Names of Data. Each name has a flag for each key in `KEYS`. The flag tells whether a Data with
-/// this name answers an Interest under this key.
+/// Names of Data. Each name has a flag for each key in `KEYS`. The flag tells whether the Data that
+/// `data_at` returns for this name answers an Interest under this key.
 const ANSWERED: [(&str, [bool; 6]); 3] = [
     ("/A", [true, true, true, false, true, true]),
     ("/A/B", [false, true, false, true, true, false]),
@@ -90,7 +90,7 @@ impl Records {
         None
     }
 
-    /// Returns whether an Interest under a key was sent with this Nonce.
+    /// Returns whether an out-record of a key has this Nonce.
     fn was_sent(&self, key: usize, nonce: u64) -> bool {
         for sent in &self.asked {
             if sent.key == key && sent.nonce == nonce {
@@ -165,8 +165,8 @@ impl Records {
         is_pending
     }
 
-    /// Returns `Waiting` if a face to which the Interest was sent has not answered with a Nack.
-    /// Otherwise returns `All` with the least reason of the Nacks under the key.
+    /// Returns `Waiting` if some out-record of the key has no reason of a Nack. Otherwise returns
+    /// `All` with the least reason in the out-records of the key.
     fn least_reason(&self, key: usize) -> Nacked {
         let mut least = u64::MAX;
         for sent in &self.asked {
@@ -209,13 +209,15 @@ fn is_same(octets: Option<&[u8]>, ask: Option<Asks>) -> bool {
     }
 }
 
-/// For a key and a face, returns whether the table has the same records as `records`.
+/// For a key and a face, returns whether the table and `records` have the same pending Interest and
+/// the same moment at which an Interest was last sent.
 fn shows(table: &Table, records: &Records, at: usize, key: Key<'_>, face: u64) -> bool {
     is_same(table.pit.interest_of(key, face), records.ask_of(at, face))
         && table.pit.used(key).get(face) == records.moment_of(at, face)
 }
 
-/// For all keys and faces, returns whether the table has the same records as `records`.
+/// Returns whether `shows` returns true for all keys and faces, and the table and `records` have
+/// pending Interests under the same number of keys.
 fn shows_all(table: &Table, records: &Records, keys: &[OwnedKey]) -> bool {
     for (at, key) in keys.iter().enumerate() {
         for face in 0..3 {
@@ -385,9 +387,9 @@ fn random_call(first: u64, state: &mut u64) -> Asked {
     }
 }
 
-/// Runs a random call on the table and on the records. Returns whether their answers agree, and the
-/// table then has the same records as `records` for a random face and key. The key has the index
-/// `first` or the next index, and most calls are for this key.
+/// Runs a random call on the table and on the records. Returns whether their answers agree, and
+/// `shows` then returns true for a random face and key. The key has the index `first` or the next
+/// index, and most calls are for this key.
 fn call_agrees(
     table: &mut Table,
     records: &mut Records,
@@ -413,8 +415,7 @@ fn call_agrees(
     Some(agrees? && shows(table, records, one.key, key, one.face))
 }
 
-/// Returns whether 24 random calls agree with the records, and the table then has the same records
-/// as `records`.
+/// Returns whether 24 random calls agree with the records, and `shows_all` then returns true.
 fn calls_agree(
     table: &mut Table,
     records: &mut Records,

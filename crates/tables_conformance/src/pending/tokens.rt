@@ -40,10 +40,10 @@ token /A+p 1 5 100, token /A+pf 1 6 100, token_for /A 1 -> yes; yes; 06
 token /A+pf 1 6 100, token /A+p 1 5 100, token_for /A 1 -> yes; yes; 06
 ";
 
-/// If a Data answers several Interests of a face with the same deadline, the face gets the token of
-/// the Interest with the greatest key. The key with the longer name is greater. If the names are
-/// the same, a key with CanBePrefix is greater than a key without CanBePrefix. If CanBePrefix is
-/// the same as well, the key with MustBeFresh is greater.
+/// If a Data answers several Interests of a face, and these Interests have the same deadline, the
+/// face gets the token of the Interest with the greatest key. The key with the longer name is
+/// greater. If the names are the same, a key with CanBePrefix is greater than a key without
+/// CanBePrefix. If CanBePrefix is the same as well, the key with MustBeFresh is greater.
 #[test]
 fn token_of_the_greatest_key(rt: HostRuntime) {
     check_rows(&rt, rt.alloc(), TOKEN_OF_THE_GREATEST_KEY, answers);
@@ -61,9 +61,9 @@ token /A 1 5 100, ask /A 2 7 200, token_of /A 2, token_for /A 2, token_for /A 1 
 token /A 1 5 100, token /A 2 6 200, token_for /A 1, token_for /A 2, token_for /A 3 -> yes; yes; 05; 06; none
 ";
 
-/// A face gets no token of an Interest that the Data does not answer, and no token of another face.
-/// Among the face's Interests that the Data answers, the Interest with the latest deadline counts.
-/// If this Interest has no token, the face gets no token.
+/// With a Data, a face gets no token of an Interest that the Data does not answer, and no token of
+/// another face. Among the face's Interests that the Data answers, the Interest with the latest
+/// deadline counts. If this Interest has no token, the face gets no token.
 #[test]
 fn no_other_token(rt: HostRuntime) {
     check_rows(&rt, rt.alloc(), NO_OTHER_TOKEN, answers);

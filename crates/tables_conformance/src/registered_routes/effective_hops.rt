@@ -18,7 +18,7 @@ register /A/B 2, register /A/C 3, register /AA 4, of /A/C, of /A -> 3@0; none
 register /A/B 2, register /A 3, of /A -> 3@0
 ";
 
-/// A name with routes, but without a capture route, inherits the child-inherit routes of its proper
+/// A name with routes, but without a capture route, inherits child-inherit routes of its proper
 /// prefixes.
 #[test]
 fn names_inherit_routes(rt: HostRuntime) {
@@ -105,8 +105,8 @@ register / 2 cost=1, register /A 2 cost=9, register /A/B 2 cost=5, register /A/B
 register / 2 cost=1, register /A/B 2 cost=9, register /A/B/C/D 4, of /A/B/C/D -> 4@0 2@9
 ";
 
-/// For each face, a name inherits the cost of a child-inherit route on this face. If several proper
-/// prefixes of the name have such a route, the route of the longest of these prefixes counts.
+/// For each face, a name inherits from at most one of its proper prefixes. If several proper
+/// prefixes have child-inherit routes on the face, the longest of these prefixes counts.
 #[test]
 fn the_nearest_for_each_face(rt: HostRuntime) {
     check_rows(&rt, rt.alloc(), THE_NEAREST_FOR_EACH_FACE, answers);

@@ -41,7 +41,7 @@ fn unregister(alloc: Global, routes: &mut RouteTable, number: u16, face: u64) ->
     Some(())
 }
 
-/// Removes the next hop on face 1 of the name with this number.
+/// Removes the next hop that the name with this number has on face 1.
 fn remove(alloc: Global, routes: &mut RouteTable, number: u16) -> Option<()> {
     let name = numbered(alloc, number)?;
     routes.remove(name.view(), 1);
