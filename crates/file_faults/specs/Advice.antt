@@ -1,4 +1,4 @@
--- The messages for a fault in a key file, and for a file that cannot be read.
+-- The messages for a fault in a key file, and the reasons why a file cannot be read.
 use Rattle.std.specs.Prelude.{ℕ, zero, suc, List, ◌++◌, codes}
 use Rattle.std.specs.Fmt.{decimal}
 use Rattle.std.specs.declared.io.ErrorKind.{ErrorKind}
