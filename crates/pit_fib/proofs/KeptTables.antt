@@ -362,7 +362,7 @@ module _ (cause : Cause) (key : PlainKey) (s : Kept) (rows new : Rows) (alive : 
       by_key None e (inl some) = absurd cc
       by_key None e (inr less) = omega (arith, e, less)
 
--- ---- what a lookup in the rows shows of the records
+-- ---- what a lookup in the rows tells about the records
 
 none_in : (rows : Rows) → rows ≡ empty → (k : PlainKey) → kept_at rows k ≡ None
 none_in rows is k = ap (λ (t : Rows). kept_at t k) is ∙ ap (λ o. kept_in o (flags_of k)) (get-empty name_cmp k.name)
@@ -400,8 +400,8 @@ turned : (b : Bool) (c : Bool) → c ≡ not b → b ≡ not c
 turned true c e = ap not (sym e)
 turned false c e = ap not (sym e)
 
--- If `b` is true exactly when the key has no entry, then `b` is true exactly when the key has no
--- in-record. The condition `many`, which holds, is added to the second statement.
+-- Let `b` be true exactly when the key has no entry, and let the statement `many` hold. Then `b` is
+-- true exactly when the key has no in-record and `many` holds.
 pub new_where_absent : (rows : Rows) (pending : Pending) (key : PlainKey) (found : Option (Bor Kept)) → AreAlive rows → pending_of rows ≡ pending
     → option_map (λ e. e.now) found ≡ kept_at rows key → (b : Bool) → is_some found ≡ not b → (many : Type 0) → many
     → IsTrue b ↔ ((is_alive (records_at pending key) ≡ false) × many)
@@ -414,7 +414,7 @@ new_where_absent rows pending key (Some entry) alive is finds b e many h =
     differ : true ≡ false → ⊥
     differ e = absurd cc
 
--- ---- the answer to a Nack, read off the entry of its key
+-- ---- the result of a Nack, computed from the entry of the Nack's key
 
 pub was_sent_shown : (o : Option Kept) (face : ℕ) (nonce : List ℕ) → was_sent (get (records_in o).out_records face) nonce ≡ was_sent_in o face nonce
 was_sent_shown None face nonce = ap (λ (s : Option OutRecord). was_sent s nonce) (get-empty nat_cmp face)

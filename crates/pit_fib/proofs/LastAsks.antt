@@ -26,7 +26,7 @@ use Rattle.pit_fib.specs.Tokens.{IsNotAfter, IsTokenFor}
 use Rattle.pit_fib.proofs.Answered.{along, answers_along, not_true, or_cases}
 use Rattle.pit_fib.proofs.KeptTables.{makes, records_in, records_kept}
 
--- ---- at most one token is sent to a face with a Data
+-- ---- at most one token is sent with a Data to a face
 
 reversed : (o p : Ordering) → o ≢ Greater → p ≢ Greater → o ≡ ordering_reverse p → o ≡ Equal
 reversed Equal p n m e = refl
@@ -83,8 +83,8 @@ not_greater o e g = cc
 not_itself : (k key : PlainKey) → k ≡ key → key_cmp k key ≢ Greater
 not_itself k key e g = let tied : key_cmp k key ≡ Equal = ap (key_cmp k) (sym e) ∙ tied_itself key_cmp-total k in cc
 
--- if the in-record `r` does not come after `b`, the deadline of `b` is at most the deadline of `s`,
--- and the key of `r` is at most the key of `s`, then `r` does not come after `s`
+-- Let the in-record `r` not come after the in-record `b`. If the deadline of `b` is at most the
+-- deadline of `s`, and the key of `r` is at most the key of `s`, then `r` does not come after `s`.
 moved : (k key new : PlainKey) (r b s : InRecord) → b.deadline ≤ s.deadline → key_cmp k new ≢ Greater → IsNotAfter k r key b → IsNotAfter k r new s
 moved k key new r b s le order (inl less) = inl (omega arith)
 moved k key new r b s le order (inr same) =
@@ -249,8 +249,8 @@ module _ (rows : Rows) (face : ℕ) (at : PlainKey → Option InRecord) (shown :
       ]) (is (flags false true))
       (one_more at Seen first best (ask (flags false false)) (λ k s. order k false s) (is (flags false false)) h)
 
-  -- `k` is a key of the name `q` that passes the test `is_answered`: any key of `q` if `is_own` is
-  -- true, but only a key with CanBePrefix if `is_own` is false
+  -- `k` is a key of the name `q`, and `k` passes the test `is_answered`: any key of `q` passes if
+  -- `is_own` is true, but only a key with CanBePrefix passes if `is_own` is false
   abbrev pub OfName : Bool → List Field → PlainKey → Type 0
   OfName is_own q k = (k.name ≡ q) × IsTrue (is_answered is_own (flags_of k))
 

@@ -1,5 +1,5 @@
--- The next hops of an entry are ordered by cost and then by face. They are exactly the faces of the
--- entry, each with its cost.
+-- The list `hops_of costs` is ordered by cost and then by face. This list has exactly the faces in
+-- `costs` as hops, each with its cost.
 use Rattle.std.proofs.Common.{◌≡◌, ◌≢◌, ◌⊎◌, inl, inr, ℕ, zero, suc, ◌<◌, true, false, cond, List, [], ◌∷◌, length, get_or, nat_cmp, refl, sym, ap, subst, ◌∙◌, arith}
 use lib.Dec.{T}
 use Rattle.std.specs.Prelude.{None, Some, fold}

@@ -81,7 +81,7 @@ tokenless_empty pending e k f r is =
     let nobody : records_at pending k ≡ no_records = ap (λ p. records_at p k) e ∙ ap (λ (o : Option Records). unwrap_or o no_records) (get-empty key_cmp k) in
     none_bare r (sym (ap (λ (m : Records). get m.in_records f) nobody ∙ get-empty nat_cmp f) ∙ is)
 
--- if no Interest in the table has a token, no token is sent to the face with the Data
+-- if no Interest in the table has a token, no token is sent with the Data to the face
 pub none_for : (pending : Pending) (name : List Field) (digest : List ℕ) (face : ℕ) (token : Option (List ℕ)) → HaveNoTokens pending
     → IsTokenFor (records_at pending) name digest face token → IsTokenFor (records_at pending) name digest face None
 none_for pending name digest face token none (inl nobody) = inl (nobody.0, refl)

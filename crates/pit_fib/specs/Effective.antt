@@ -57,8 +57,9 @@ abbrev pub does_inherit : Registered → Bool
 does_inherit registered = not (map.len registered == 0) && not (has_capture registered)
 
 -- The effective cost of a face is the cost of the entry's next hop on the face or, without a next
--- hop, the least cost of the entry's routes on the face. For a face with neither a next hop nor a
--- route, the effective cost is the cost in `above`, if the entry has routes but no capture route.
+-- hop, the least cost of the entry's routes on the face. If the entry has routes but no capture
+-- route, the effective cost of every other face is the face's cost in `above`. Otherwise, no other
+-- face has an effective cost.
 abbrev pub effective_of : Entry → ByFace → ByFace
 effective_of e above =
     prefer e.hops (prefer (least_costs (λ _. true) (map.entries e.registered))

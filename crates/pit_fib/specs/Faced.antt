@@ -25,10 +25,10 @@ none_in room = record { values = map.empty; is_wide = nat_le MAX_FACES room }
 abbrev pub has_place : {X : Type 0} → Faced X → Bool
 has_place f = f.is_wide || nat_lt (map.len f.values) FEW
 
--- The returned Boolean is whether there is memory for the value of one more face. The values stay
--- in their own memory if this memory suffices for one more value. If their own memory does not
--- suffice and `room` is at least 64, the values move into the supplied memory for `room` values. If
--- 64 faces have values, the Boolean is false, and the values do not move.
+-- The returned Boolean is whether there is memory for the value of one more face. If 64 faces have
+-- values, the Boolean is false. The values move into the supplied memory for `room` values exactly
+-- if three conditions hold: fewer than 64 faces have values, the values' own memory does not
+-- suffice for one more value, and `room` is at least 64.
 abbrev pub placed : {X : Type 0} → ℕ → Faced X → Bool × Faced X
 placed room f =
     if nat_le MAX_FACES (map.len f.values) then (false, f) else (

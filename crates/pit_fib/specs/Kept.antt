@@ -62,9 +62,9 @@ with_in_record face in_record s =
       };
     } else s
 
--- The entry `s` with the out-record of the face set to `out_record`. If the entry's own memory does
--- not suffice, the out-records move into the supplied memory for `room` out-records. The entry is
--- unchanged if the face is new and there is no memory for its out-record.
+-- The entry `s` with the out-record of the face set to `out_record`. The entry is unchanged if the
+-- face is new and there is no memory for its out-record. Otherwise, if the entry's own memory does
+-- not suffice, the out-records move into the supplied memory for `room` out-records.
 abbrev pub sent_in : ℕ → ℕ → OutRecord → Kept → Kept
 sent_in room face out_record s =
     with_out_records s (set_in room face out_record (kept_out_records s))

@@ -26,8 +26,8 @@ in_record_after (Withdrawn key face) k f was = if same_key k key && (f == face) 
 in_record_after (Removed key) k f was = if same_key k key then None else was
 in_record_after (Closed face) k f was = if f == face then None else was
 
--- the in-record of a face after these causes: the in-record of the face's last Interest of the key,
--- unless a later cause has removed this in-record
+-- the in-record of a face after these causes: the in-record of the face's last Interest of the key;
+-- None if there is no such Interest, or if a later cause has removed this in-record
 abbrev pub in_record_of : List Cause → PlainKey → ℕ → Option InRecord
 in_record_of [] k f = None
 in_record_of (cause ∷ before) k f = in_record_after cause k f (in_record_of before k f)
@@ -48,8 +48,8 @@ out_record_after (Removed key) k g was = if same_key k key then None else was
 out_record_after (Closed face) k g was = if g == face then None else was
 
 -- the out-record of a face after these causes: the out-record of the last Interest that was sent to
--- the face under the key; None if, since then, the face has closed or the key had no in-record at
--- some time
+-- the face under the key; None if there is no such Interest, or if, since then, the face has closed
+-- or the key had no in-record at some time
 abbrev pub out_record_of : List Cause → PlainKey → ℕ → Option OutRecord
 out_record_of [] k g = None
 out_record_of (cause ∷ before) k g =

@@ -265,8 +265,8 @@ impl Entry {
     }
 
     /// Adds or replaces the in-record of a face. Changes nothing if the face has no in-record and
-    /// 64 other faces have in-records. If the face has no in-record and the entry's own memory is
-    /// full, the in-records move into the memory `room`.
+    /// 64 other faces have in-records. Otherwise, if the face has no in-record and the entry's own
+    /// memory is full, the in-records move into the memory `room`.
     pub fn arrive(&mut self, face: u64, in_record: InRecord, room: Room<InRecord>)
         requires { MAX_FACES ≤ room }
         ensures { self.new ≡ with_in_record face in_record self.old }
@@ -283,11 +283,10 @@ impl Entry {
         self.out_records.get(face).is_some() || self.out_records.has_place()
     }
 
-    /// Adds or replaces the out-record of a face. If the face has no out-record, the entry's own
-    /// memory does not suffice for a new one, and `room` has capacity for 64 out-records, the
-    /// out-records move into the memory `room`. Changes nothing if the face has no out-record and
-    /// there is no place for a new one: 64 faces have out-records, or neither the entry's own
-    /// memory nor the memory `room` suffices.
+    /// Adds or replaces the out-record of a face. Changes nothing if the face has no out-record and
+    /// there is no place for a new one: 64 faces have out-records, or the entry's own memory is
+    /// full and `room` lacks capacity for 64 out-records. Otherwise, if the face has no out-record
+    /// and the entry's own memory is full, the out-records move into the memory `room`.
     pub fn sent(&mut self, face: u64, out_record: OutRecord, room: Room<OutRecord>)
         ensures { self.new ≡ sent_in room face out_record self.old }
     {

@@ -88,9 +88,10 @@ impl<V: Drop> FaceMap<V> {
         self.rows.capacity() >= MAX_FACES || self.rows.len() < FEW
     }
 
-    /// Provides memory for one more value. If the map's own memory does not suffice and `room` has
-    /// capacity for 64 values, the values move into the memory `room`. Returns false, and changes
-    /// nothing, if neither memory suffices, or if the map has 64 values.
+    /// Provides memory for one more value. Returns false, and changes nothing, if the map has 64
+    /// values, or if the map's own memory does not suffice and `room` lacks capacity for 64 values.
+    /// Otherwise returns true, and moves the values into the memory `room` if the map's own memory
+    /// does not suffice.
     fn make_place(&mut self, room: Room<V>) -> bool
         ensures { (result, self.new) ≡ placed room self.old }
     {
@@ -122,7 +123,8 @@ impl<V: Drop> FaceMap<V> {
     }
 
     /// Sets the value of a face. Changes nothing if the face is new and there is no place for its
-    /// value: 64 faces have values, or neither the map's own memory nor the memory `room` suffices.
+    /// value: 64 faces have values, or the map's own memory does not suffice and `room` lacks
+    /// capacity for 64 values.
     pub fn set(&mut self, face: u64, value: V, room: Room<V>)
         ensures { self.new ≡ set_in room face value self.old }
     {

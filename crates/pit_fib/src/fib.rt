@@ -71,7 +71,7 @@ impl Model for Fib {
 }
 
 impl Fib {
-    /// Returns a table without routes.
+    /// Returns a table without next hops and routes.
     pub fn new(alloc: Global) -> Fib
         ensures table { result.table ≡ map.empty }
         ensures prepared { result.prepared ≡ None }
@@ -300,7 +300,8 @@ impl Fib {
     }
 
     /// Returns what `longest` returns, and adds one to `steps` for each search among the children
-    /// of a node. The contract promises at most one search for each component of the name.
+    /// of a node of the name trie. The contract promises at most one search for each component of
+    /// the name.
     pub fn longest_counted(&self, name: Name<'_>, steps: &mut u64) -> Hops
         requires { steps.old + 64 < 2 ^ 64 }
         ensures exact { result ≡ longest_hops self.now.table (components name.entry) }

@@ -10,7 +10,8 @@ use std::marker::Model;
 pub struct Hop {
     pub face: u64,
     pub cost: u64,
-    /// Whether the face is Local: it leads to a program on this machine.
+    /// Whether the hop is marked as Local (`Hops::mark`). A Local face leads to a program on this
+    /// machine.
     pub local: bool,
 }
 

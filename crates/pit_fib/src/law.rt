@@ -44,9 +44,9 @@ pub fn hops_are_in_order()
 /// Law: the effective next hops of a name have the costs of the name's own next hops, of its own
 /// routes, and of the routes that it inherits, and no others. For a face with a next hop of the
 /// name, the cost is the cost of this next hop. For a face with routes of the name but no next hop,
-/// the cost is the least cost of these routes. For a face without a next hop or route of the name,
-/// the cost is the cost that the name inherits, if the name has routes and none of them is a
-/// capture route.
+/// the cost is the least cost of these routes. Every other face has a cost exactly if the name has
+/// routes, none of these routes is a capture route, and the name inherits a cost for the face. The
+/// face then has the inherited cost.
 pub fn effective_hops_are_as_defined()
     ensures { (routes : Routes) (name : List Field) (face cost : ℕ)
         → (map.get (effective routes name) face ≡ Some cost) ↔ IsEffective routes name face cost }
@@ -124,8 +124,8 @@ pub fn records_tell_the_table()
         → ((key : PlainKey) → records_at a key ≡ records_at b key) → a ≡ b }
 {}
 
-/// Law: the records after an expiry are the same, whether or not an expiry at the same or an
-/// earlier moment came before it.
+/// Law: the records after an expiry are the same, whether or not another expiry, at the same or an
+/// earlier moment, came directly before it.
 pub fn expiry_may_come_twice()
     ensures { (m n : ℕ) (key : PlainKey) (r : Records) → m ≤ n
         → records_after (Expires n) key (records_after (Expires m) key r)

@@ -109,9 +109,10 @@ impl Pit {
     }
 
     /// Returns whether an Interest with this key and Nonce loops if it comes from the face `face`.
-    /// An Interest loops if two conditions hold. First, the Interest's Nonce is in the in-record of
-    /// another face, or in any out-record. Second, the Interest's Nonce is not in the in-record of
-    /// the Interest's own face (NFD Developer's Guide, "Incoming Interest Pipeline").
+    /// An Interest loops if the records of its key meet two conditions. First, the Interest's Nonce
+    /// is in the in-record of another face, or in any out-record. Second, the Interest's Nonce is
+    /// not in the in-record of the Interest's own face (NFD Developer's Guide, "Incoming Interest
+    /// Pipeline").
     pub fn loops(&self, key: Key<'_>, face: u64, nonce: [u8; 4]) -> bool
         ensures { result
             ≡ loops_in (records_at self.now.pending (plain_key key.entry)) face nonce }
@@ -346,8 +347,9 @@ impl Pit {
         last_for(&self.rows, packet, face)?.token()
     }
 
-    /// Removes all Interests that a Data answers, and returns the faces of these Interests. The
-    /// Data answers an Interest whether or not the Interest has MustBeFresh.
+    /// Removes all Interests that a Data answers, and the out-records of their keys. Returns the
+    /// faces of the removed Interests. The Data answers an Interest whether or not the Interest has
+    /// MustBeFresh.
     pub fn satisfy(&mut self, packet: &Data<'_>) -> Faces
         ensures pending { Follows (Satisfied (components packet.now.name)
             (sha256 packet.now.whole.now)) self.old.pending self.new.pending }
@@ -428,8 +430,8 @@ impl Pit {
         answer_of(&self.rows, key, reason)
     }
 
-    /// Removes the in-record of a face, if there is one. If the key has no other in-record, its
-    /// out-records are removed too.
+    /// Removes the in-record of a face under this key, if there is one. If the key then has no
+    /// in-record, the key's out-records are removed too.
     pub fn withdraw(&mut self, key: Key<'_>, face: u64)
         ensures pending { Follows (Withdrawn (plain_key key.entry) face)
             self.old.pending self.new.pending }
@@ -481,9 +483,10 @@ fn entry_of<'a>(rows: &'a TimedMap<Row>, key: Key<'_>) -> Option<&'a Entry>
 }
 
 /// Adds faces to `faces`: the faces that have an in-record under those keys of the row that a Data
-/// answers. Adds no face if there is no row. If the name of the row is the Data's name or full name
-/// (`is_own`), the Data answers all keys of the row. If the name of the row is a proper prefix of
-/// the Data's name, the Data answers only the keys with CanBePrefix.
+/// answers. Adds no face if there is no row. Once `faces` has 64 faces, no other face is added. If
+/// the name of the row is the Data's name or full name (`is_own`), the Data answers all keys of the
+/// row. If the name of the row is a proper prefix of the Data's name, the Data answers only the
+/// keys with CanBePrefix.
 fn add_of(row: Option<&Row>, is_own: bool, faces: &mut Faces)
     ensures { faces.new
         ≡ taken (with_answered is_own) faces.old (option_map (λ r. r.now) row.entry) }
@@ -503,8 +506,8 @@ fn was_sent(rows: &TimedMap<Row>, key: Key<'_>, face: u64, nonce: [u8; 4]) -> bo
     }
 }
 
-/// Returns whether the own memory of the key's entry suffices for an out-record of this face, or
-/// true if the key has no entry.
+/// Returns whether the own memory of the key's entry suffices for an out-record of this face
+/// (`Entry::has_place_for`), or true if the key has no entry.
 fn has_place_for(rows: &TimedMap<Row>, key: Key<'_>, face: u64) -> bool
     ensures { result ≡ has_place_in (kept_at rows.now.table (plain_key key.entry)) face }
 {

@@ -42,8 +42,9 @@ impl Ready {
 }
 
 impl Prepared {
-    /// Prepares one `arrive` of this key, and the `sent` calls after this `arrive`. The Interest
-    /// and the token of the `arrive` may have at most `size` octets together.
+    /// Returns the prepared calls of this key: one `arrive`, with newly allocated memory, and the
+    /// `sent` calls after this `arrive`. The Interest and the token of the `arrive` may have at
+    /// most `size` octets together.
     pub fn new(alloc: Global, key: Key<'_>, size: usize) -> Result<Prepared, Memory>
         ensures { IfOk result (λ made. (made.key ≡ plain_key key.entry)
             × (room_of made.arrival ≡ Some size) × IfSome made.arrival IsReady) }

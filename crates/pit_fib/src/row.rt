@@ -75,9 +75,9 @@ impl Row {
     }
 
     /// Adds faces to `faces`: the faces that have an in-record under those keys of this name that a
-    /// Data answers. If the name is the Data's name or full name (`is_own`), the Data answers all
-    /// keys of the name. If the name is a proper prefix of the Data's name, the Data answers only
-    /// the keys with CanBePrefix.
+    /// Data answers. Once `faces` has 64 faces, no other face is added. If the name is the Data's
+    /// name or full name (`is_own`), the Data answers all keys of the name. If the name is a proper
+    /// prefix of the Data's name, the Data answers only the keys with CanBePrefix.
     pub fn add_answered(&self, is_own: bool, faces: &mut Faces)
         ensures { faces.new ≡ with_answered is_own faces.old self.now }
     {

@@ -67,7 +67,7 @@ impl Model for StrategyTable {
 }
 
 impl StrategyTable {
-    /// Returns a table with best-route for all names.
+    /// Returns a table that has only the strategy best-route at `/`.
     pub fn new(alloc: Global) -> StrategyTable
         ensures table { result.table ≡ only_best_route }
         ensures prepared { result.prepared ≡ None }

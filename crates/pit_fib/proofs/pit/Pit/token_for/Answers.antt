@@ -13,7 +13,7 @@ use Rattle.pit_fib.proofs.LastAsks.{token_is_for}
 use Rattle.pit_fib.proofs.Tokenless.{none_for}
 use Rattle.pit_fib.proofs.pit.Pit.token_for.Goals as goal
 
--- the token that is sent to the face with the Data is the token of the face's last in-record under
+-- the token that is sent with the Data to the face is the token of the face's last in-record under
 -- the keys that the Data answers
 is_for : (rows : Rows) (pending : Pending) (name : List Field) (digest : List ℕ) (face : ℕ) (last : Option InRecord) (token : Option (List ℕ))
     → pending_of rows ≡ pending → last ≡ last_of rows face name digest → option_and_then (λ r. r.token) last ≡ token
