@@ -1,4 +1,4 @@
--- The line of the fault that is reported for a text that spells no entries.
+-- The line of the fault that is reported for a text that cannot be read as entries.
 use Rattle.std.proofs.Common.{◌≡◌, ◌≢◌, ℕ, zero, suc, ◌+◌, ◌≤◌, Bool, true, false, cond, eqb, leb, List, [], ◌∷◌, ◌++◌, Result, Ok, Err, refl, sym, ap, subst, ◌∙◌, inl, inr, arith}
 use Rattle.std.specs.Prelude.{⊤, Option, Some, None, nat_lt, length}
 use Rattle.std.specs.List.{AllByRecursion, count_by}

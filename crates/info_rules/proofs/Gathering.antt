@@ -65,7 +65,8 @@ loop_done f word keys all before read none is h =
     let empty : each f (named word keys) ≡ Ok [] = rw none refl in
     is ∙ (sym (done before) ∙ (ap (λ g. joined before g) (sym empty) ∙ h))
 
--- before any key is read, the list of collected values is empty, so joining it changes nothing
+-- before any key is read, the list `parts` of collected values is empty, so joining `parts` and a
+-- result gives this result
 pub loop_start : {A : Type 0} (parts : List A) (found : Found (List A)) → parts ≡ [] → joined (Ok parts) found ≡ found
 loop_start parts (Ok others) none = rw none refl
 loop_start parts (Err f) none = refl

@@ -1,4 +1,5 @@
--- The number of keys, and the ids of rules, that are read without a fault.
+-- If keys are read without a fault, there is one value for each key. Rules that are read without a
+-- fault have different ids.
 use Rattle.std.proofs.Common.{◌≡◌, ℕ, Bool, true, false, cond, List, [], ◌∷◌, ◌++◌, length, suc, refl, sym, ap, subst, ◌∙◌}
 use Rattle.std.specs.Prelude.{◌≢◌, Option, Some, None, Ok, Err, bytes_eq, codes, MatchOption}
 use Rattle.std.specs.List.{AllByRecursion, flat_map}

@@ -1,4 +1,4 @@
--- The requirements of filters and key locators on a name.
+-- What filters and key locators require of a name.
 use Rattle.std.proofs.Common.{◌≡◌, ℕ, Bool, true, false, cond, List, [], ◌∷◌, refl, sym, ap, subst, ◌∙◌, inl, inr}
 use Rattle.std.specs.Prelude.{◌⊎◌, Option, Some, None, Ok, not, bytes_eq, codes}
 use Rattle.std.specs.List.{filter_map, cons_option}
@@ -122,7 +122,8 @@ is_itself forms.Related = refl
 is_itself forms.Matching = refl
 is_itself forms.Hyper = refl
 
--- the form and the line of a key, if the key belongs to a form, and this form is not `other`
+-- the form and the line of a key if the key belongs to a form and this form is not `other`, else
+-- `None`
 abbrev other_by : Tested → Option Form → ℕ → Option Form → Option (Form × ℕ)
 other_by tested other line o = on_option (λ (form : Form). cond (is_other other form) (Some (form, line)) None) None o
 
@@ -149,8 +150,8 @@ no_other_again tested form [] may = refl
 no_other_again tested form (key ∷ keys) (inl none, may) = rw none (no_other_again tested form keys may)
 no_other_again tested form (key ∷ keys) (inr some, may) = rw (some, is_itself form) (no_other_again tested form keys may)
 
--- `first_other` returns `form` if some key is `word`, if each key `word` belongs to `form`, and if
--- no key belongs to another form
+-- if some key is `word`, if each key `word` belongs to `form`, and if no key belongs to another
+-- form, `first_other tested None keys` returns `form`, together with the line of a key
 first_there : (tested : Tested) (form : Form) (word : List ℕ) (keys rest : List Block) (found : Block) → AllMayStand tested form keys → ((key : Block) → key.0.key ≡ word → form_of tested key ≡ Some form) → named word keys ≡ found ∷ rest
     → (line : ℕ) × (first_other tested None keys ≡ Some (form, line))
 first_there tested form word [] rest found may means e = absurd cc

@@ -60,7 +60,7 @@ head_read draft head tokens shallow may = by_value head.value refl
 
 -- ---- the tokens of entries in sequence are read
 
--- the first of the entries, if there is one, may be the next entry that is added to the draft
+-- there are no entries, or the first entry can be added next to the draft without a fault
 abbrev Starts : PlainDraft → Nodes → Type 0
 Starts draft NoNode = Unit {0}
 Starts draft (Leaf head others) = MayBegin head.line draft.pending draft.closed

@@ -1,4 +1,5 @@
--- The positions from which an atom and the later atoms can match, computed count by count.
+-- The positions from which an atom and the later atoms can match, computed for each number of
+-- components that the atom can take.
 use Rattle.std.proofs.Common.{◌≡◌, ℕ, zero, suc, ◌+◌, ◌/◌, ◌^◌, ◌<◌, ◌≤◌, Bool, true, false, not, ◌&&◌, ◌||◌, ltb, List, [], ◌∷◌, length, drop, length-drop, Option, Some, None, is_some, refl, sym, ◌∙◌, ap, arith, add-one, inl, inr, true≢false}
 use Rattle.std.specs.Prelude.{slice_get}
 use Rattle.std.specs.Int.RustNames.{bit_and, bit_or}

@@ -110,7 +110,8 @@ items_end len begun items draft rest h ends = h.2 ∙ last h.0
     last zero = refl
     last (suc n) = rw ends refl
 
--- if no text remains, the anchor `$` is missing, and the atom `anything` is added to the pattern
+-- if no text remains after the items, so that the anchor `$` is missing, the atom `anything` is
+-- added to the draft
 pub end_implied : (draft : PlainDraft) (rest : List ℕ) → length rest ≡ 0 → at_end draft rest ≡ whole_of (with_implied draft) draft.open_group
 end_implied draft [] none = refl
 end_implied draft (o ∷ rest) none = absurd (omega arith)

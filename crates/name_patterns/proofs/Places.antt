@@ -74,7 +74,7 @@ in_either a b place = rw (bit_at_or a b place) (of_bits (bit_at a place) (bit_at
     of_bits zero (suc (suc y)) low high = absurd (omega arith)
     of_bits (suc zero) (suc (suc y)) low high = absurd (omega arith)
 
--- ---- the positions of a set from a position on
+-- ---- the positions of a set from a given position on
 
 bit_of_shr : (n k i : ℕ) → bit_at (n / 2 ^ k) i ≡ bit_at n (k + i)
 bit_of_shr n k i = ap (λ (m : ℕ). m % 2) (shr-shr n k i)
@@ -165,7 +165,7 @@ greatest_none can least (suc n) none =
           (greatest_none can least n (λ j low high. none j low (omega arith)))
     ]
 
--- ---- the last position up to an end
+-- ---- the greatest position of a set that is at most `end`
 
 bit_of_mod : (n w i : ℕ) → i < w → bit_at (n % 2 ^ w) i ≡ bit_at n i
 bit_of_mod n w i low =

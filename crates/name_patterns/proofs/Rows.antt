@@ -93,7 +93,8 @@ none_from (atom ∷ atoms) cs zero (suc i) from low none = none_in_front atom at
 none_from (atom ∷ atoms) cs (suc first) zero from low none = absurd (omega arith)
 none_from (atom ∷ atoms) cs (suc first) (suc i) from low none = none_from atoms cs first i (omega arith) (omega arith) none
 
--- if the set of positions is empty, the atoms have no split from any position
+-- if the set of the positions from which the atoms have a split is empty, `first_count` returns
+-- `None` for the components from any position `place` on
 pub none_there : (atoms : List PlainAtom) (cs : List Field) (place : ℕ) → AreSplit atoms cs 0 → place ≤ length cs → first_count atoms (drop place cs) ≡ None
 none_there atoms cs place none low = of_test (first_count atoms (drop place cs)) (sym (none place low) ∙ no_place place)
   where

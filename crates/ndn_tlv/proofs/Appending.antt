@@ -1,4 +1,4 @@
--- What successive calls append.
+-- What one call, or two successive calls, append to a vector.
 use Rattle.std.proofs.Common.{◌≡◌, ◌+◌, ◌≤◌, List, ◌++◌, ℕ, length, take, vec_len, sym, ap, subst, ◌∙◌, append_assoc, arith, rules}
 use Rattle.std.specs.Prelude.{Result, Ok, Err, OnOk, OnErr, IsOk}
 use Rattle.std.specs.Global.{Vec}

@@ -1,4 +1,4 @@
--- The choice of a strategy that selects only eligible hops.
+-- What a strategy chooses if it selects from the eligible hops.
 use Rattle.std.proofs.Common.{◌≡◌, ℕ, true, false, cond, List, [], refl, sym, ap, ◌∙◌}
 use Rattle.std.specs.Prelude.{◌↔◌, All, Contains}
 use Rattle.std.specs.List.{list_any}
