@@ -86,8 +86,8 @@ module _ (rows : List Placed) (used : List (ℕ × ℕ)) (next p : ℕ) (row new
     each_data = all_valued (λ r. IsCachedData r.1.entry) p new rows data' sound.each_data;
   }
 
-  -- after a row's entry is renewed and its serial number is promoted, the new entry is the first
-  -- cached Data, followed by the other Data in their old order
+  -- after the entry of a row is renewed and the row's serial number is promoted, the new entry is
+  -- the first cached Data, followed by the other Data in their old order
   pub cached_renewed : cached_in (set_value (nat_eq p) rows new) (promoted (nat_eq row.serial) used) ≡ new.entry ∷ without (full_name_of new.entry) (cached_in rows used)
   cached_renewed =
       let now = (lookup_valued p p new row rows at).0 refl in

@@ -387,7 +387,7 @@ module _ {V : Type 0} (k : ℕ) (o : Option ℕ) (h h' : Heap V) (root : Option 
         (λ apart. ap (option_map (λ n. n.parent)) (cuts.others a ne apart));
   }
 
--- ---- lemmas for callers
+-- ---- other lemmas about heaps, walks and results
 
 pub same_heap : {V : Type 0} (h h' : Heap V) → ((j : ℕ) → h' j ≡ h j) → h' ≡ h
 same_heap h h' e = λ i j. e j i

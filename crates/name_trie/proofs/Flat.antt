@@ -1,5 +1,5 @@
 -- Lookups in a flattened map, and the number of keys in this map. Flattening turns a map from names
--- to rows into a map from keys.
+-- to rows into a map from keys to values.
 use Rattle.std.proofs.Common.{◌≡◌, ℕ, suc, ◌+◌, Bool, true, false, cond, List, [], ◌∷◌, ◌++◌, map, length, refl, sym, ap, subst, ◌∙◌, arith, length-append}
 use lib.Dec.{T}
 use Rattle.std.specs.Prelude.{Option, None, Some, ◌&&◌}

@@ -1,4 +1,4 @@
--- How the timers follow a change of a value.
+-- How the timers change when a value changes.
 use Rattle.std.proofs.Common.{◌≡◌, ◌≢◌, ℕ, zero, suc, ◌+◌, ◌-◌, ◌<◌, ◌≤◌, Bool, true, false, cond, not, eqb, refl, sym, ap, ◌∙◌, arith}
 use Rattle.std.specs.Prelude.{◌&&◌, ◌||◌, Option, None, Some, IsSome, nat_le}
 use Rattle.std.specs.Option.{option_map, option_and_then, option_eq}

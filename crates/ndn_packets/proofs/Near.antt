@@ -1,4 +1,4 @@
--- Full names that are near a name in canonical order.
+-- The full names that are near a name (`is_near`) are contiguous in canonical order.
 use Rattle.std.proofs.Common.{◌≡◌, ◌≢◌, ℕ, zero, suc, ◌<◌, ◌≤◌, Bool, true, false, List, [], ◌∷◌, ◌++◌, length, get_or, drop, refl, sym, ap, ◌∙◌, arith, inl, inr, append_assoc}
 use Rattle.std.specs.Prelude.{◌&&◌, nat_lt, slice_get, Option, None, Some}
 use Rattle.std.specs.declared.cmp.Ordering.{Ordering}

@@ -1,4 +1,4 @@
--- How the faces with an in-record that a Data answers are collected, one after the other.
+-- How the faces with an in-record under a key that a Data answers are collected, one by one.
 use Rattle.std.proofs.Common.{◌≡◌, ℕ, suc, ◌<◌, Bool, true, false, cond, List, [], ◌∷◌, length, get_or, take, refl, sym, ap, subst, ◌∙◌, arith, eqb, ltb, zero, ◌⊎◌, inl, inr}
 use Rattle.std.specs.Prelude.{IsTrue, ◌||◌, nat_le}
 use Rattle.std.specs.List.{AllByRecursion, list_any}

@@ -206,7 +206,7 @@ hop_stands face cost e = ap (λ b. b && eqb (len e.registered) 0) (some_in nat_c
 pub route_stands : (key : RouteKey) (r : Route) (e : Entry) → is_vacant (entry_with_route key r e) ≡ false
 route_stands key r e = and_false (eqb (len e.hops) 0) (some_in route_cmp-total e.registered key r)
 
--- ---- changes of a name without an entry
+-- ---- changes that create no entry for a name that has none
 
 pub change_is : (g : Entry → Option Entry) (t : Routes) (name : List Field) → g no_entry ≡ None → option_and_then g (get t name) ≡ g (entry_at t name)
 change_is g t name none = elim (get t name) as (λ o. option_and_then g o ≡ g (unwrap_or o no_entry)) [ None ↦ sym none | (Some e) ↦ refl ]

@@ -81,7 +81,7 @@ module _ (t : Routes) (name : List Field) (key : RouteKey) (none : route_refusal
       at_most_one true = omega arith
       at_most_one false = omega arith
 
--- ---- the earliest deadline after a route was added
+-- ---- the earliest deadline of the routes, updated when a route is added
 
 sooner_was : (moment : ℕ) (deadline : Option ℕ) → sooner moment deadline ≤ moment
 sooner_was moment None = omega arith

@@ -1,4 +1,5 @@
--- The search along a name for the last in-record of a face, by deadline and then by key.
+-- The search along a name for the last in-record of a face. The last in-record is the one with the
+-- latest deadline and, if several have this deadline, the one under the greatest key.
 use Rattle.std.proofs.Common.{◌≡◌, ◌≤◌, ◌<◌, ℕ, zero, suc, true, false, List, [], ◌∷◌, ◌++◌, length, take, drop, refl, sym, ap, ◌∙◌, arith}
 use Rattle.std.specs.Prelude.{Option, None, Some}
 use Rattle.std.specs.FinMap.{get}

@@ -1,5 +1,5 @@
--- The last in-record of a face that a Data answers, by deadline and then by key, and the token of
--- this in-record.
+-- The last in-record, by deadline and then by key, that a face has under the keys that a Data
+-- answers, and the token of this in-record.
 use Rattle.std.proofs.Common.{◌≡◌, ◌⊎◌, inl, inr, ℕ, zero, suc, ◌<◌, ◌≤◌, Bool, true, false, cond, List, [], ◌∷◌, ◌++◌, length, take, refl, sym, ap, subst, ◌∙◌, arith, append_assoc, ltb}
 use Rattle.std.specs.Prelude.{◌≢◌, Option, None, Some, IsTrue, ◌&&◌, ◌||◌}
 use Rattle.std.specs.Option.{option_and_then}
@@ -216,8 +216,8 @@ one_of k q x y n p m = λ i. record { name = n i; can_be_prefix = p i; must_be_f
 
 module _ (rows : Rows) (face : ℕ) (at : PlainKey → Option InRecord) (shown : (k : PlainKey) → at k ≡ ask_in face (kept_at rows k)) where
   -- If `best` is the last in-record under the keys in `Seen`, `last_prefix` gives the last
-  -- in-record under the keys in `Seen` and the two keys of `q` with CanBePrefix. No key in `Seen`
-  -- may be greater than a key of `q` with CanBePrefix.
+  -- in-record under the keys in `Seen` and the two keys of `q` with CanBePrefix. A precondition is
+  -- that no key in `Seen` is greater than a key of `q` with CanBePrefix.
   prefix_more : (Seen : PlainKey → Type 0) (q : List Field) (best : Option InRecord) (row : Row) → get rows q ≡ Some row → ((k : PlainKey) (y : Bool) → Seen k → key_cmp k (key_at q (flags true y)) ≢ Greater) → IsLastOf at Seen best
       → IsLastOf at (λ k. (Seen k ⊎ (k ≡ key_at q (flags true false))) ⊎ (k ≡ key_at q (flags true true))) (last_prefix face best row)
   prefix_more Seen q best row here order h =
@@ -233,8 +233,8 @@ module _ (rows : Rows) (face : ℕ) (at : PlainKey → Option InRecord) (shown :
       (one_more at Seen third best (ask (flags true false)) (λ k s. order k false s) (is (flags true false)) h)
 
   -- If `best` is the last in-record under the keys in `Seen`, `last_exact` gives the last in-record
-  -- under the keys in `Seen` and the two keys of `q` without CanBePrefix. No key in `Seen` may be
-  -- greater than a key of `q` without CanBePrefix.
+  -- under the keys in `Seen` and the two keys of `q` without CanBePrefix. A precondition is that no
+  -- key in `Seen` is greater than a key of `q` without CanBePrefix.
   exact_more : (Seen : PlainKey → Type 0) (q : List Field) (best : Option InRecord) (row : Row) → get rows q ≡ Some row → ((k : PlainKey) (y : Bool) → Seen k → key_cmp k (key_at q (flags false y)) ≢ Greater) → IsLastOf at Seen best
       → IsLastOf at (λ k. (Seen k ⊎ (k ≡ key_at q (flags false false))) ⊎ (k ≡ key_at q (flags false true))) (last_exact face best row)
   exact_more Seen q best row here order h =

@@ -1,4 +1,4 @@
--- Changes of tables by name keep the tables within their limits.
+-- A table of values by name stays within its limits when it is changed.
 use Rattle.std.proofs.Common.{◌≡◌, ◌⊎◌, inl, inr, ◌+◌, ◌-◌, ◌<◌, ◌≤◌, Bool, true, false, cond, List, [], ◌∷◌, length, refl, sym, ap, subst, ◌∙◌, arith}
 use Rattle.std.specs.Prelude.{Option, None, Some, IsSome}
 use Rattle.std.specs.Option.{option_and_then}
@@ -24,7 +24,7 @@ some_before : {X : Type 0} (change : X → Option X) (o : Option X) → IsSome (
 some_before change None some = none_there (option_and_then change None) refl some
 some_before change (Some x) some = refl
 
--- ---- tables by name that are within their limits
+-- ---- tables of values by name that are within their limits
 
 module _ {X : Type 0} where
   pub limits_empty : IsWithinLimits (empty {X = X} {R = name_cmp})

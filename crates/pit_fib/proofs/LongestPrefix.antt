@@ -1,4 +1,4 @@
--- The longest prefix of a name that has a value.
+-- Among the prefixes of a name that have a value, the longest prefix.
 use Rattle.std.proofs.Common.{◌≡◌, ℕ, zero, suc, ◌<◌, ◌≤◌, true, false, List, take, refl, ap, ◌∙◌, arith, ltb}
 use Rattle.std.specs.Prelude.{Option, None, Some, IsSome}
 use Rattle.std.specs.Option.{option_or}

@@ -1,4 +1,5 @@
--- The entry of the longest prefix, and how many routes expire by a moment.
+-- The effective next hops of a name's longest prefix that has an entry, and how many routes expire
+-- by a moment.
 use Rattle.std.proofs.Common.{◌≡◌, ◌⊎◌, inl, inr, ℕ, zero, suc, ◌+◌, ◌<◌, ◌≤◌, true, false, cond, List, [], ◌∷◌, length, take, refl, sym, ap, subst, ◌∙◌, arith, leb}
 use Rattle.std.proofs.lemmas.Bool.{leb-false, leb-true}
 use Rattle.std.specs.Prelude.{None, Some, IsSome, filter, is_some}

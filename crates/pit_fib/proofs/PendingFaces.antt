@@ -155,8 +155,9 @@ pub stays_few : (cause : Cause) (old new : Pending) → ((f : ℕ) → Adds caus
 stays_few cause old new none follows few =
     at_most (λ f has. elim (had_record cause old new follows f has) [ (inl was) ↦ was | (inr adds) ↦ absurd (none f adds) ]) few
 
--- Let a cause give a record to `face` only, or to no face. If the faces with records before the
--- cause, together with `face`, are at most 64, then at most 64 faces have records after the cause.
+-- Let a cause give a record to `face` only, or to no face. If `face` and the faces with records
+-- before the cause are together at most 64 different faces, at most 64 faces have records after the
+-- cause.
 pub grows_few : (cause : Cause) (old new : Pending) (face : ℕ) → ((f : ℕ) → Adds cause f → f ≡ face) → Follows cause old new
     → AtMost64 (λ f. HasRecord old f ⊎ (f ≡ face)) → AtMost64 (HasRecord new)
 grows_few cause old new face one follows room =
@@ -215,8 +216,8 @@ all_with P f [] h all = (h, tt)
 all_with P f (g ∷ faces) h all =
     elim (ltb f g) as (λ b. AllByRecursion P (cond b (f ∷ g ∷ faces) (g ∷ with_face f faces))) [ true ↦ (h, all) | false ↦ (all.0, all_with P f faces h all.1) ]
 
--- if the faces with the property `P`, together with `f`, are at most 64, then a rising list of
--- faces with the property `P` that does not contain `f` has fewer than 64 faces
+-- if `f` and the faces with the property `P` are together at most 64 different faces, a rising list
+-- that does not contain `f`, and whose faces have the property `P`, has fewer than 64 faces
 pub room_in_list : (P : ℕ → Type 0) (f : ℕ) (faces : List ℕ) → AtMost64 (λ g. P g ⊎ (g ≡ f)) → IsRising faces → AllByRecursion P faces → has_face f faces ≡ false → length faces < 64
 room_in_list P f faces few rising all out =
     let more = few (with_face f faces) (with_rises f faces rising out) (all_with (λ g. P g ⊎ (g ≡ f)) f faces (inr refl) (all_before (λ g h. inl h) faces all)) in
@@ -247,7 +248,7 @@ room_in m face few = by_cases (get m face) refl
         let less = room_in_list (λ f. IsSome (get m f)) face (faces_of es) few (rises es sorted) there (absent_face face es (sym (get-entries m face) ∙ e)) in
         inr (omega (arith, less, count es, len-entries m))
 
--- ---- an entry has fewer than 64 records before a record is added
+-- ---- in an entry, the face has a record, or fewer than 64 faces have a record of the same kind
 
 module _ (old : Pending) (key : PlainKey) (r : Records) (face : ℕ) (here : records_at old key ≡ r) (room : HasRoomFor old face) where
   ask_there : (f : ℕ) → IsSome (get r.in_records f) ⊎ (f ≡ face) → HasRecord old f ⊎ (f ≡ face)

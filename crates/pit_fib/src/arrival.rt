@@ -49,7 +49,7 @@ impl RecordRoom {
     }
 }
 
-/// The change of a row when the Interest of a face arrives.
+/// The change of a row when an Interest arrives from a face.
 #[derive(Drop)]
 pub struct Arrival {
     pub flags: Flags,

@@ -103,8 +103,7 @@ impl Becomes<Entry> for WithHop {
 
 /// A change that registers a route. If the vector `room` lacks capacity for the name's old routes
 /// and one more route, the entry is unchanged. Otherwise, the route is added, or replaces the older
-/// route with the same face and origin. In both cases, all routes of the name are then stored in
-/// `room`.
+/// route with the same face and origin, and all routes of the name are then stored in `room`.
 #[derive(Drop)]
 pub struct WithRoute {
     pub alloc: Global,

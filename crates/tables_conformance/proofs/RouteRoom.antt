@@ -1,5 +1,5 @@
 -- Suppose that each face of a table, and a further face `face`, is below 63 or is 2^64 - 1. Then
--- the faces of the table together with `face` are at most 64 (`HasRoomFor`).
+-- the table and `face` together have at most 64 different faces (`HasRoomFor`).
 use Rattle.std.proofs.Common.{◌≡◌, ◌⊎◌, inl, inr, ℕ, suc, ◌+◌, ◌-◌, ◌^◌, ◌<◌, ◌≤◌, Bool, true, false, not, cond, List, [], ◌∷◌, length, refl, sym, ap, subst, ◌∙◌, arith, eqb}
 use Rattle.std.proofs.lemmas.Bool.Decides.{nat_tests}
 use Rattle.std.proofs.lemmas.Cmp.{nat_cmp_total}

@@ -321,8 +321,8 @@ fn holds_the_last(store: &mut Store, packet: &mut [u8], most: u64) -> Option<boo
     Some(last && !first)
 }
 
-/// Puts one Data more than the capacity into a store. Returns whether the first Data is evicted,
-/// the last Data is cached, and the store is full.
+/// Puts `capacity + 1` Data into a store. Returns whether the first Data is evicted, the last Data
+/// is cached, and the store is full.
 fn evicts_the_first(
     store: &mut Store,
     packet: &mut [u8],
