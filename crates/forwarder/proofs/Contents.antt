@@ -344,7 +344,7 @@ module _ (reason : ℕ) (packet : List ℕ) (short : length packet ≤ 8800) whe
       ∙ ap (λ (r : Result LinkSoFar PacketFault). (r >>= λ s. link_from s (Ok (800, reason_value reason) ∷ (Ok (80, packet) ∷ []))) >>= λ f. Ok f.frame) header) ∙ nack_read (Some token))
       (ap holds_data one ∙ ap carries_data elements ∙ carries_none)
 
--- a Nack around at most 8,800 octets is not a Data
+-- a Nack around at most 8,800 octets, with a valid token or without a token, is not a Data
 pub nack_is_no_data : (token : Token) (reason : ℕ) (interest : List ℕ) → IfSome token IsToken → length interest ≤ 8800 → is_data (lp_text token (Some reason) interest) ≡ false
 nack_is_no_data None reason interest is short = bare_nack reason interest short
 nack_is_no_data (Some token) reason interest is short = token_nack reason interest short token is
@@ -356,7 +356,7 @@ pub nack_is_nack : (token : Token) (reason : ℕ) (interest : List ℕ) (i : Pla
 nack_is_nack token reason interest i is fits read small =
     ap is_nack_frame (frame_of_framed (lp_text token (Some reason) interest) _ (lp_nack_read token reason interest i is fits small read))
 
--- ---- a link packet around a packet, with a token
+-- ---- a link packet that has a token and contains a packet
 
 abbrev wrapped : List ℕ → List ℕ → List ℕ
 wrapped token packet = element (100, element (98, token) ++ (element (80, packet) ++ []))

@@ -28,7 +28,8 @@ module _ {K X : Type 0} {R : K → K → Ordering} (order : IsTotalOrder R) wher
   found_at (e ∷ es) (suc i) d lt =
       here_or_later (eq_by_cmp R (get_or es i d).0 e.0) e.1 (map.find R (get_or es i d).0 es) (found_at es i d (omega (arith, lt)))
 
-  -- if a property is true of each key that has a value, then it is true of the key of each entry
+  -- if a property is true of each key that has a value, then the property is true of the key of
+  -- each entry
   pub all_entries : (P : K → Type 0) (m : FinMap R X) (d : K × X) → ((k : K) → IsSome (map.get m k) → P k) → All (λ e. P e.0) (map.entries m)
   all_entries P m d holds =
       All-from_get_or (λ (e : K × X). P e.0) (map.entries m) d

@@ -318,8 +318,8 @@ nack_spelled token reason whole i is octets spelled fits = by_nack (is_nack (lp_
     by_nack true e = refl
     by_nack false e = absurd (never e)
 
--- if a Nack is sent back and the in-record of the face is withdrawn, then the new records follow
--- from the causes of the Interest
+-- if a Nack is sent back to a face, and the in-record of this face is withdrawn, then the new
+-- records follow from the causes of the Interest
 pub nack_causes_are : (now face : ℕ) (token : Token) (reason : ℕ) (whole : List ℕ) (i : PlainInterest) (old new : Pending) → IfSome token IsToken → IfSome token AreOctets
     → ∥ IsInterest whole i ∥₁ → reason < 2 ^ 64 → Follows (Withdrawn (key_of i) face) old new
     → FollowAll (interest_causes now face token whole i (nacked_back face token reason whole ∷ [])) old new

@@ -26,7 +26,8 @@ nack_fits reason =
     let short : length inner ≤ 12 = omega (arith, more (801, shortest_nni reason) [], eight, length-element 801 (shortest_nni reason), length-spelling_three 801 (omega arith), length-spelling_one (length (shortest_nni reason)) (omega (arith, eight))) in
     omega (arith, short, length-element 800 inner, length-spelling_three 800 (omega arith), length-spelling_one (length inner) (omega (arith, short)))
 
--- a link packet is at most `LINK_EXTRA` octets longer than the packet in it
+-- a link packet with a valid token or without a token is at most `LINK_EXTRA` octets longer than
+-- the packet in it
 pub link_is_short : (token : Option (List ℕ)) (nack : Option ℕ) (packet : List ℕ) → IfSome token IsToken → length (lp_text token nack packet) ≤ length packet + LINK_EXTRA
 link_is_short None None packet is = omega arith
 link_is_short None (Some reason) packet is =

@@ -42,9 +42,9 @@ module _ (first was p : Policy) (before : Run) (event : PlainEvent) (answer : An
       let one : reply.was ≡ was = one_policy first reply.was was before before apart (one_history before) reply.is_policy is in
       subst (λ (x : Policy). Replies (seen_after before (at_moment x (moment event)) reply.waiting) event answer) one reply.replies
 
-  -- Let commands change a value of the routes by `command`, and let faces that close change it by
-  -- `closing`. Then the value after the event is the value once time has advanced to the event's
-  -- moment, changed by the event's outcome.
+  -- Let commands change a value of the routes by `command`, and let the closing of a face change
+  -- this value by `closing`. Then the value after the event is the value once time has advanced to
+  -- the event's moment, changed by the event's outcome.
   last_read : {V : Type 0} (see : Routes → V) (command : Result PlainCommand ℕ → ℕ → V → V) (closing : ℕ → V → V)
       → ((status from : ℕ) (x : V) → command (Err status) from x ≡ x)
       → ((from : ℕ) (c : PlainCommand) → see (routes_after c from q.now q.routes) ≡ command (Ok c) from (see q.routes))

@@ -246,7 +246,7 @@ module _ (seen : Seen) (P : ℕ → Type 0) (face : ℕ) (token : Token) (asker 
   request_passes ForRepository answer (said, is_said, is) = command_passes P seen.policy face token i said answer is
   request_passes ForData answer is = data_passes (loops (seen.records (key_of i)) face i.nonce) answer is
 
--- ---- what time and packets change in the open faces and in the faces with next hops or routes
+-- ---- how time and packets affect the open faces, and the faces with next hops or routes
 
 -- The policies `p` and `q` have the same open faces. If all faces with next hops or routes are open
 -- in `p`, then all faces with next hops or routes are open in `q`.

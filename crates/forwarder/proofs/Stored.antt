@@ -1,5 +1,5 @@
--- Each object of a repository that was empty at first is a Data that was allowed in an event of the
--- run.
+-- Let the repository be empty at the start of a run. Then each object that is stored after the run
+-- is a Data that was allowed in an event of the run.
 use Rattle.std.proofs.Common.{◌≡◌, ℕ, Bool, true, false, cond, List, refl, sym, ap, subst, ◌∙◌, Result, Ok, Err, inl, inr}
 use Rattle.std.specs.Prelude.{◌⊎◌, Option, Some, None, not, ◌==◌, if◌then◌else◌}
 use Rattle.std.specs.Cmp.{Equal-is}

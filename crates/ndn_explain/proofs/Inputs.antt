@@ -48,8 +48,8 @@ line_said keys text line after first more (inr e) h others =
     let none = nothing_said keys more (subst (λ (t : List ℕ). IsExplainedInput keys t more) e.1 others) in
     subst (λ (lines : List (List ℕ)). AreExplained keys lines (first ++ more)) (sym e.0) (first, more, h, none, refl)
 
--- if a line has octets, and `words` explains them as a packet, then the text before the packet is
--- printed as a line, followed by `words`
+-- if the digits of a line encode at least one octet, and `words` explains the octets as a packet,
+-- then `words` is printed after the line `head`, or alone if `head` is empty
 pub octets_said : (keys : Option (List NamedKey)) (text head octets words : List ℕ) → octets ≢ [] → IsExplainedPacket keys octets words → IsExplainedPart keys text head (Ok octets) (repeated head ++ words)
 octets_said keys text head [] words some h = absurd (some refl)
 octets_said keys text head (o ∷ octets) words some h = (words, h, refl)

@@ -7,7 +7,8 @@ use Rattle.std.proofs.lemmas.List.{get_or-set_same, get_or-set_other}
 use Rattle.std.proofs.lemmas.Option.{get_or_from_slice_get, slice_get_read}
 use Rattle.node_ports.specs.Endpoints.{IsLocalhostAt}
 
--- the first `count` endpoints are the first `count` of these ports of 127.0.0.1, in the same order
+-- each of the first `count` endpoints has the address 127.0.0.1, and the port that is at the same
+-- index of `ports`
 abbrev pub ArePut : List ℕ → List SocketAddr → ℕ → Type 0
 ArePut ports endpoints count =
     (place port : ℕ) (endpoint : SocketAddr) → place < count → slice_get ports place ≡ Some port
