@@ -25,14 +25,14 @@ full_name_code =
 
 -- ---- full names that are near a name in canonical order
 
--- the list is empty, or the type of its first component is at most 1, the type of an implicit
--- digest
+-- the list is empty, or the type of its first component is at most 1 (the type of an implicit
+-- digest)
 abbrev pub starts_small : List Field → Bool
 starts_small [] = true
 starts_small (c ∷ cs) = nat_lt c.0 PARAMETERS_SHA256_DIGEST
 
 -- `full` begins with `name`. If `can_be_prefix` is false and `full` has components after `name`,
--- the type of the first of these components is at most 1, the type of an implicit digest. If a Data
+-- the type of the first of these components is at most 1 (the type of an implicit digest). If a Data
 -- answers an Interest that has the name `name` and the CanBePrefix `can_be_prefix`, the full name
 -- of the Data is near `name`.
 abbrev pub is_near : List Field → Bool → List Field → Bool

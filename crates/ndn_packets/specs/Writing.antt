@@ -103,8 +103,8 @@ abbrev pub name_with : List ℕ → List Field → List Field → List Field
 name_with digest name [] = name
 name_with digest name (f ∷ fields) = name ++ (PARAMETERS_SHA256_DIGEST, digest) ∷ []
 
--- the writer's name, followed by the digest of the fields from the ApplicationParameters on, if
--- there are such fields
+-- the name of the Interest that `w` writes: the writer's name alone if there are no fields from the
+-- ApplicationParameters on; otherwise, the writer's name followed by the digest of these fields
 abbrev pub interest_name : InterestWriter → List Field
 interest_name w =
     name_with (sha256 (octets (later_fields w w.sign))) (components w.name) (later_fields w w.sign)
@@ -153,7 +153,7 @@ interest_refusal w =
 
 -- ---- Data
 
--- the value of a MetaInfo, if the MetaInfo has at least one field
+-- the value of a MetaInfo that has these fields, or `None` if the list of fields is empty
 abbrev pub meta_of : List Field → Option (List ℕ)
 meta_of [] = None
 meta_of (f ∷ fields) = Some (octets (f ∷ fields))
@@ -257,8 +257,8 @@ SignsReply name content =
 abbrev pub nack_field : ℕ → List ℕ
 nack_field reason = element (NACK, element (NACK_REASON, shortest_nni reason))
 
--- a link packet that consists of a Nack with the reason `reason` and a Fragment whose value is the
--- octets `interest`
+-- a link packet that has two fields: a Nack with the reason `reason`, and a Fragment whose value is
+-- the octets `interest`
 abbrev pub nack_text : ℕ → List ℕ → List ℕ
 nack_text reason interest =
     element (
@@ -321,7 +321,7 @@ AreOctets octets = (i : ℕ) → slice_index octets i < 256
 abbrev pub IsU64 : Option ℕ → Type 0
 IsU64 n = IfSome n (λ k. k < 2 ^ 64)
 
--- if there is a key, its name consists of octets
+-- if there is a key, the octets of its name are below 256
 abbrev pub IsSoundSign : Sign → Type 0
 IsSoundSign sign.Digest = ⊤
 IsSoundSign (sign.Hmac name key) = AreOctets (octets (components name))

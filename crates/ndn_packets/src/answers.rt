@@ -47,7 +47,7 @@ impl Data<'_> {
 
     /// Returns what `answers` returns, if `digest` is the implicit digest of the Data. A caller
     /// with many Interests can thus compute the digest only once. If `asked_digest` returns `None`
-    /// for an Interest, `digest` may be any 32 octets.
+    /// for `asked`, `digest` may be any 32 octets.
     pub fn answers_with(&self, digest: &[u8; 32], asked: Name<'_>, can_be_prefix: bool) -> bool
         ensures exact { IsTrue result
             ↔ Answers (components self.now.name) digest.now (components asked.entry)
@@ -63,9 +63,9 @@ impl Data<'_> {
     }
 
     /// Returns the value of the last component of `asked`, if this component is an implicit digest
-    /// and the components before it are the Data's name. Whether the returned digest is correct is
-    /// not checked. If the result is `None`, the result of `answers` does not depend on the digest
-    /// of the Data.
+    /// and the components before it are the Data's name. Otherwise, returns `None`. Does not check
+    /// whether the returned value is the digest of the Data. If the result is `None`, the result of
+    /// `answers` does not depend on the digest of the Data.
     pub fn asked_digest<'n>(&self, asked: Name<'n>) -> Option<&'n [u8]>
         ensures { AsksFor (components self.now.name) (components asked.entry)
             (option_map (λ digest. digest.now) result) }

@@ -243,8 +243,8 @@ pub fn put_reply(out: &mut Vec<u8>, name: Name<'_>, content: &[u8]) -> Result<()
     reply.put(out, reply.value_len())
 }
 
-/// Returns the writer of a Data with this name and Content, without MetaInfo, signed with
-/// DigestSha256.
+/// Returns the writer of a Data with this name and Content. The Data has no MetaInfo and is signed
+/// with DigestSha256.
 fn reply<'a>(name: Name<'a>, content: &'a [u8]) -> DataWriter<'a>
     ensures { result ≡ reply_of name.entry content.entry }
 {

@@ -118,7 +118,8 @@ pub fn info_len(sign: Sign<'_>, time: Option<u64>, seq: Option<u64>) -> usize
     locator_len(sign).saturating_add(numbers_len)
 }
 
-/// Appends an optional field. If memory runs out, some octets may have been appended.
+/// Appends a field of type `kind` with the value in `value`, or nothing if `value` is `None`. If
+/// memory runs out, some octets may have been appended.
 #[inline(always)]
 pub fn put_optional(out: &mut Vec<u8>, kind: u32, value: Option<&[u8]>) -> Result<(), Memory>
     requires { 1 ≤ kind }

@@ -179,8 +179,8 @@ pub(crate) fn packet_of(outer: Element<'_>) -> Result<Frame<'_>, PacketFault>
     }
 }
 
-/// Reads the Interest in the element `outer`, and returns a Nack for this Interest with the reason
-/// `reason`. Returns `BadField` if the element is not an Interest.
+/// Reads the Interest in the element `outer`, and returns a Nack with the reason `reason` for this
+/// Interest. Returns `BadField` if the element is not an Interest.
 pub(crate) fn nacked_of(reason: u64, outer: Element<'_>) -> Result<Frame<'_>, PacketFault>
     ensures { on_result (λ f. Ok (plain_frame f)) Err result
         ≡ nacked_of reason outer.entry.whole.now (outer.entry.kind, outer.entry.value.now) }

@@ -108,7 +108,7 @@ impl FullName {
     /// Returns whether the full name is near `name`. The full name is near `name` if two conditions
     /// are met. First, the full name begins with `name`. Second, if `can_be_prefix` is false and
     /// the full name has components after `name`, the type of the first of these components is at
-    /// most 1, the type of an implicit digest. If a Data answers an Interest that has the name
+    /// most 1 (the type of an implicit digest). If a Data answers an Interest that has the name
     /// `name` and the CanBePrefix `can_be_prefix`, the full name of the Data is near `name`.
     pub fn is_near(&self, name: Name<'_>, can_be_prefix: bool) -> bool
         ensures { result ≡ is_near (components name.entry) can_be_prefix

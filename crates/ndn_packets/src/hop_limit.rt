@@ -12,7 +12,8 @@ use crate::frame::{Frame, read_frame};
 use crate::types::HOP_LIMIT;
 use ndn_tlv::first_element;
 
-/// Mutably borrows the HopLimit's octet, if the octets are one Interest that has a HopLimit.
+/// Returns a mutable borrow of the HopLimit's octet, or `None` if the octets are not one Interest
+/// that has a HopLimit.
 pub fn hop_limit_mut(octets: &mut [u8]) -> Option<&mut u8>
     // The borrow can change only the HopLimit's octet.
     ensures* lends { sem 𝓛 (LendsHopLimit octets.entry result) }

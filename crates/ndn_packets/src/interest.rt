@@ -274,7 +274,7 @@ fn fields_of(rest: &[u8]) -> Result<InterestFields<'_>, PacketFault>
     Ok(found)
 }
 
-/// Reads the value of a flag. The value must be empty.
+/// Reads the value of a flag. Returns true if the value is empty, and otherwise `BadField`.
 #[inline(always)]
 fn is_set(value: &[u8]) -> Result<bool, PacketFault>
     ensures { result ≡ (if is_nil value.now then Ok true else Err BadField) }

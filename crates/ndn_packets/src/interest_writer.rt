@@ -333,7 +333,7 @@ impl InterestWriter<'_> {
     }
 }
 
-/// Overwrites the 32 octets before index `digest_end` with the digest of the octets from `start`
+/// Overwrites the 32 octets before index `digest_end` with SHA-256 of the octets from index `start`
 /// on.
 fn put_digest(octets: &mut [u8], digest_end: usize, start: usize)
     requires after { 32 ≤ digest_end }

@@ -282,9 +282,9 @@ fn put_link_start(out: &mut Vec<u8>, token: &[u8], packet_len: usize) -> Result<
     Ok(())
 }
 
-/// Appends a link packet that contains a Nack with the reason `reason` and the octets `interest`
-/// (NDNLPv2, "Network Nack"). The NackReason is always written, even if it is 0. If memory runs
-/// out, nothing is appended.
+/// Appends a link packet that has two fields: a Nack with the reason `reason`, and a Fragment whose
+/// value is the octets `interest` (NDNLPv2, "Network Nack"). The NackReason is always written, even
+/// if it is 0. If memory runs out, nothing is appended.
 pub fn put_nack(out: &mut Vec<u8>, reason: u64, interest: &[u8]) -> Result<(), Memory>
     ensures ok { OnOk result (out.new.items ≡ out.old.items ++ nack_text reason interest.now) }
     ensures err { OnErr result (out.new.items ≡ out.old.items) }
