@@ -13,7 +13,7 @@ use crate::node::{Node, prune, set_value, value_of};
 use slab::Slab;
 use timers::{Timer, Timers};
 
-/// A value with a deadline and a size. The size is the number of entries that the value counts as.
+/// A value with a deadline and a size. `TimedMap::len` is the sum of the sizes of all values.
 pub trait Timed {
     ghost timer: { Self → ℕ };
 
@@ -34,7 +34,7 @@ pub fn timer_at<V: Timed>(nodes: &Slab<Node<V>>, k: usize) -> Option<u64>
     Some(value.timer())
 }
 
-/// Returns the number of entries that a node's value counts as, or 0 if the node has no value.
+/// Returns the size of a node's value, or 0 if the node has no value.
 pub fn size_at<V: Timed>(nodes: &Slab<Node<V>>, k: usize) -> usize
     ensures { result ≡ size_in V.size (get nodes.now) k }
 {

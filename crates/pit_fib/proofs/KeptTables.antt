@@ -362,7 +362,7 @@ module _ (cause : Cause) (key : PlainKey) (s : Kept) (rows new : Rows) (alive : 
       by_key None e (inl some) = absurd cc
       by_key None e (inr less) = omega (arith, e, less)
 
--- ---- what a lookup in the rows tells about the records
+-- ---- empty rows have no records; what a lookup in the rows tells about the records
 
 none_in : (rows : Rows) → rows ≡ empty → (k : PlainKey) → kept_at rows k ≡ None
 none_in rows is k = ap (λ (t : Rows). kept_at t k) is ∙ ap (λ o. kept_in o (flags_of k)) (get-empty name_cmp k.name)

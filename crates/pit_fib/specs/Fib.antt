@@ -55,7 +55,7 @@ LeadsTo routes face =
     ⊎ ((origin : ℕ) × IsSome (map.get (registered_at routes name)
     (record { face = face; origin = origin }))))
 
--- the faces of all next hops and routes, together with `face`, are at most 64
+-- at most 64 different faces have a next hop or a route, or are equal to `face`
 abbrev pub HasRoomFor : Routes → ℕ → Type 0
 HasRoomFor routes face = AtMost64 (λ f. LeadsTo routes f ⊎ (f ≡ face))
 

@@ -39,7 +39,7 @@ HasRecord pending face =
     (key : PlainKey) × (IsSome (map.get (records_at pending key).in_records face)
     ⊎ IsSome (map.get (records_at pending key).out_records face))
 
--- the faces that have a record, together with `face`, are at most 64
+-- at most 64 different faces have a record, or are equal to `face`
 abbrev pub HasRoomFor : Pending → ℕ → Type 0
 HasRoomFor pending face = AtMost64 (λ f. HasRecord pending f ⊎ (f ≡ face))
 
