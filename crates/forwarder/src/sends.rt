@@ -114,7 +114,7 @@ impl Sends {
         Ok(())
     }
 
-    /// Adds a send of these octets to the face `face`.
+    /// Appends one send: these octets go to the face `face`.
     pub fn push(&mut self, face: u64, octets: &[u8]) -> Result<(), Memory>
         ensures ok { OnOk result (self.new.sends ≡ self.old.sends ++ (face, octets.now) ∷ []) }
         ensures err { OnErr result (self.new.sends ≡ self.old.sends) }
