@@ -240,7 +240,7 @@ abbrev pub first_fault : Option OpenGroup → List ℕ → PatternFault → Patt
 first_fault None text fault = fault
 first_fault (Some group) text fault = if is_closed false text then fault else Syntax group.place
 
--- the complete pattern, once its whole text has been read, or a fault if a group is still open
+-- the pattern of a draft whose whole text has been read, or a fault if a group is still open
 abbrev pub whole_of : PlainDraft → Option OpenGroup → Result PlainPattern PatternFault
 whole_of draft (Some group) = Err (Syntax group.place)
 whole_of draft None = Ok (record { atoms = draft.atoms; groups = draft.groups })
@@ -249,7 +249,7 @@ whole_of draft None = Ok (record { atoms = draft.atoms; groups = draft.groups })
 abbrev pub with_implied : PlainDraft → PlainDraft
 with_implied draft = record draft { atoms = draft.atoms ++ anything ∷ [] }
 
--- The complete pattern, once all its items have been read, or a fault if a group is still open. The
+-- The pattern of a draft whose items have all been read, or a fault if a group is still open. The
 -- remaining text is empty or is the anchor `$`. An empty remaining text implies a last atom.
 abbrev pub at_end : PlainDraft → List ℕ → Result PlainPattern PatternFault
 at_end draft [] = whole_of (with_implied draft) draft.open_group

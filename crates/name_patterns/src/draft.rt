@@ -9,7 +9,7 @@ use std::alloc::Global;
 /// The greatest number of atoms that can be written in a pattern.
 const MAX_WRITTEN: usize = 32;
 
-/// The greatest number of groups of a pattern.
+/// The greatest number of groups of a pattern, not counting group 0.
 const MAX_GROUPS: usize = 9;
 
 /// A group that is still open: the offset of its opening parenthesis in the pattern, and the number
@@ -49,7 +49,7 @@ impl Draft {
         }
     }
 
-    /// Adds the atom that is implied by a missing anchor.
+    /// Appends the atom that a missing anchor implies.
     pub fn imply(&mut self) -> Result<(), PatternFault>
         ensures ok { OnOk result (draft_of self.new ≡ with_implied (draft_of self.old)) }
         ensures err { IfErr result (λ fault. fault ≡ PatternFault.Memory) }
@@ -58,8 +58,8 @@ impl Draft {
         Ok(())
     }
 
-    /// Adds the atom at the front of the text. The atom is at offset `at` of the pattern. Returns
-    /// the remaining text.
+    /// Reads the atom at the front of the text, and appends this atom to the draft. The atom is at
+    /// offset `at` of the pattern. Returns the remaining text.
     fn add_atom<'a>(
         &mut self,
         alloc: Global,
@@ -122,8 +122,8 @@ impl Draft {
         Ok(())
     }
 
-    /// Adds the item at the front of the text: a parenthesis or an atom. The item is at offset `at`
-    /// of the pattern. Returns the remaining text.
+    /// Reads the item at the front of the text, and updates the draft. The item is a parenthesis or
+    /// an atom, and is at offset `at` of the pattern. Returns the remaining text.
     pub fn add_item<'a>(
         &mut self,
         alloc: Global,
@@ -146,7 +146,7 @@ impl Draft {
         self.add_atom(alloc, at, text)
     }
 
-    /// Returns the complete pattern, once its whole text has been read, or a fault if a group is
+    /// Returns the pattern of a draft whose whole text has been read, or a fault if a group is
     /// still open.
     pub fn finish(self) -> Result<Pattern, PatternFault>
         requires { IsDraft 2 (draft_of self) }

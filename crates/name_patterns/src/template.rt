@@ -112,7 +112,7 @@ impl Template {
     }
 }
 
-/// Appends the components that a part expands to.
+/// Appends to `expanded` the components that a part expands to.
 fn append_part(
     expanded: &mut NameBuf,
     part: &Part,
@@ -140,7 +140,8 @@ fn append_part(
     Ok(())
 }
 
-/// Appends the components of a name from position `start` up to, but not including, position `end`.
+/// Appends to `expanded` the components of `name` from position `start` up to, but not including,
+/// position `end`.
 fn append_between(
     expanded: &mut NameBuf,
     name: Name<'_>,

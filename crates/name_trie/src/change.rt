@@ -20,7 +20,7 @@ pub trait Change<V> {
         ensures { result ≡ change self.now value };
 }
 
-/// Removes and returns a node's value.
+/// Removes and returns the value of node `k`. Returns `None` if the node has no value.
 pub fn take_value<V>(nodes: &mut Slab<Node<V>>, k: usize) -> Option<V>
     ensures old { result ≡ value_in (get nodes.old) k }
     ensures sets { IsSome result → Sets k None (get nodes.old) (get nodes.new) }

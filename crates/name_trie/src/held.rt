@@ -75,7 +75,7 @@ pub fn held_node(held: &Option<(NameBuf, usize)>) -> Option<usize>
     }
 }
 
-/// Returns the node in `made`, which is a result of `hold`, or `None` if `made` is an error.
+/// Returns the node in `made`, or `None` if `made` is an error. `made` is a result of `hold`.
 pub fn node_held(made: &Result<(NameBuf, usize), Memory>) -> Option<usize>
     ensures ok { IfOk made.now (λ p. result ≡ Some p.1) }
     ensures err { OnErr made.now (result ≡ None) }

@@ -39,8 +39,9 @@ fn list_value<'a, V>(
     Ok(())
 }
 
-/// Appends to `list` the rows of node `at`, whose name is `front`, and of the nodes below this
-/// node. `depth` is the number of levels to list, including the level of node `at`.
+/// Appends to `list` one row for node `at` and one for each node below node `at`, but only for
+/// nodes that have a value. A row is a name and its value. The name of node `at` is `front`.
+/// `depth` is the number of levels to list, including the level of node `at`.
 pub fn list_below<'a, V>(
     alloc: Global,
     nodes: &'a Slab<Node<V>>,
@@ -67,7 +68,7 @@ pub fn list_below<'a, V>(
     Ok(())
 }
 
-/// Returns the rows of a trie, in canonical order of their names.
+/// Returns all names that have a value in a trie, with their values, in canonical order.
 pub fn list<'a, V>(
     alloc: Global,
     nodes: &'a Slab<Node<V>>,

@@ -55,7 +55,7 @@ impl<V: Drop> NameMap<V> {
         self.len
     }
 
-    /// Returns the value of a name.
+    /// Returns the value of a name, or `None` if the name has no value.
     pub fn get(&self, name: Name<'_>) -> Option<&V>
         ensures { option_map (λ v. v.now) result ≡ map.get self.now.table (components name.entry) }
     {
@@ -99,7 +99,7 @@ impl<V: Drop> NameMap<V> {
         self.trie.forget_prepared();
     }
 
-    /// Removes the value of a name.
+    /// Removes the value of a name, if the name has a value.
     pub fn remove(&mut self, name: Name<'_>)
         ensures table { self.new.table ≡ map.remove self.old.table (components name.entry) }
         ensures prepared { self.new.prepared ≡ self.old.prepared }
@@ -117,7 +117,8 @@ impl<V: Drop> NameMap<V> {
         self.trie.list(alloc)
     }
 
-    /// Returns the value that a longest prefix match of `name` finds.
+    /// Returns the value of the longest prefix of `name` that has a value, or `None` if no prefix
+    /// has a value. `name` counts as a prefix of itself.
     pub fn longest(&self, name: Name<'_>) -> Option<&V>
         ensures { option_map (λ v. v.now) result
             ≡ longest_in self.now.table (components name.entry) }

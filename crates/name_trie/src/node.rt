@@ -26,7 +26,7 @@ pub struct Node<V> {
     pub value: Option<V>,
 }
 
-/// Returns the child of node `at` for `component`.
+/// Returns the child of node `at` for `component`, or `None` if there is no such child.
 pub fn child_of<V>(nodes: &Slab<Node<V>>, at: usize, component: Component<'_>) -> Option<usize>
     ensures { result ≡ child (get nodes.now) at (field_of component.entry) }
 {
@@ -46,14 +46,14 @@ pub fn has_child_up_to<V>(nodes: &Slab<Node<V>>, at: usize, kind: u16) -> bool
     }
 }
 
-/// Returns the value of a node.
+/// Returns the value of a node, or `None` if the node has no value.
 pub fn value_of<V>(nodes: &Slab<Node<V>>, at: usize) -> Option<&V>
     ensures { option_map (λ v. v.now) result ≡ value (get nodes.now) at }
 {
     nodes.get(at)?.value.as_ref()
 }
 
-/// Returns the node that a name leads to.
+/// Returns the node that a name leads to from the root, or `None` if there is no such node.
 pub fn find<V>(nodes: &Slab<Node<V>>, root: Option<usize>, name: Name<'_>) -> Option<usize>
     ensures { result ≡ walk (get nodes.now) root (components name.entry) }
 {
@@ -65,7 +65,7 @@ pub fn find<V>(nodes: &Slab<Node<V>>, root: Option<usize>, name: Name<'_>) -> Op
     at
 }
 
-/// Sets the value of a node.
+/// Sets the value of a node, or removes the node's value if `value` is `None`.
 pub fn set_value<V: Drop>(nodes: &mut Slab<Node<V>>, at: usize, value: Option<V>)
     requires { IsSome (get nodes.old at) }
     ensures { Sets at value (get nodes.old) (get nodes.new) }
@@ -126,7 +126,8 @@ pub fn add_root<V: Drop>(alloc: Global, nodes: &mut Slab<Node<V>>) -> Result<usi
     Ok(k)
 }
 
-/// Removes a node and the link from its parent to the node. Returns the parent.
+/// Removes a node and the link from its parent to the node. Returns the parent, or `None` if the
+/// node had no parent.
 pub fn cut<V: Drop>(nodes: &mut Slab<Node<V>>, k: usize) -> Option<usize>
     requires there { IsSome (get nodes.old k) }
     requires once { (a : ℕ) (c d : Field) → child (get nodes.old) a c ≡ Some k
@@ -262,7 +263,8 @@ pub fn make_path<V: Drop>(
     Ok(at)
 }
 
-/// Returns the value that a longest prefix match of `name` finds.
+/// Returns the value of the longest prefix of `name` that has a value, or `None` if no prefix has a
+/// value. `name` counts as a prefix of itself.
 pub fn longest<'a, V>(
     nodes: &'a Slab<Node<V>>,
     root: Option<usize>,

@@ -75,9 +75,10 @@ fn put_component(name: &mut Vec<u8>, component: Component<'_>) -> Result<(), Mem
     Ok(())
 }
 
-/// Passes to the visitor `show` the names that have a value: the name of node `at`, and the names
-/// of the nodes below node `at`. `depth` is the number of levels to show, including the level of
-/// node `at`. `name` contains the octets of the name of node `at`.
+/// Passes to the visitor `show` the name of each node that has a value, among node `at` and the
+/// nodes below node `at`. Each name is passed with the state of the walk at this name. `before` is
+/// the state before the walk visits node `at`. `depth` is the number of levels to show, including
+/// the level of node `at`. `name` contains the octets of the name of node `at`.
 fn show_below<V, W: Carry<V> + Drop, S: Show<W>>(
     nodes: &Slab<Node<V>>,
     at: usize,
@@ -109,7 +110,7 @@ fn show_below<V, W: Carry<V> + Drop, S: Show<W>>(
 }
 
 /// Passes to the visitor `show` all names that have a value, in canonical order. Each name is
-/// passed with the state of the walk at this name.
+/// passed with the state of the walk at this name. The walk begins with the state `before`.
 pub fn show_all<V, W: Carry<V> + Drop, S: Show<W>>(
     alloc: Global,
     nodes: &Slab<Node<V>>,

@@ -26,7 +26,7 @@ pub trait Timed {
         ensures { result ≡ size self.now };
 }
 
-/// Returns the deadline of a node's value.
+/// Returns the deadline of a node's value, or `None` if the node has no value.
 pub fn timer_at<V: Timed>(nodes: &Slab<Node<V>>, k: usize) -> Option<u64>
     ensures { result ≡ timer_in V.timer (get nodes.now) k }
 {
@@ -79,8 +79,8 @@ fn start(timers: &mut Timers, key: usize, new: Option<u64>)
     }
 }
 
-/// For node `key`, replaces the timer with the deadline `old` by a timer with the deadline `new`.
-/// `None` means that there is no timer. If `old` is `None`, `new` must be `None` too.
+/// Changes the deadline of the timer of node `key` from `old` to `new`. `None` means that there is
+/// no timer. If `old` is `None`, `new` must be `None` too.
 pub fn retime(timers: &mut Timers, key: usize, old: Option<u64>, new: Option<u64>)
     requires had { IsSome new → IsSome old }
     requires there { (d : ℕ) → old ≡ Some d
@@ -160,7 +160,8 @@ pub fn expire<V: Timed + Drop, C: Change<V>>(
     }
 }
 
-/// Removes and returns the value of node `k`, and removes the timer of this node.
+/// Removes and returns the value of node `k`, and removes the timer of this node. Returns `None` if
+/// the node has no value.
 fn take_timed<V: Timed + Drop>(
     nodes: &mut Slab<Node<V>>,
     timers: &mut Timers,

@@ -89,7 +89,7 @@ impl<V: Timed + Drop> TimedMap<V> {
         self.len
     }
 
-    /// Returns the value of a name.
+    /// Returns the value of a name, or `None` if the name has no value.
     pub fn get(&self, name: Name<'_>) -> Option<&V>
         ensures { option_map (λ v. v.now) result ≡ map.get self.now.table (components name.entry) }
     {
@@ -97,7 +97,8 @@ impl<V: Timed + Drop> TimedMap<V> {
         value_of(&self.nodes, k)
     }
 
-    /// Returns the value of the name that extends `name` by `component`.
+    /// Returns the value of the name that extends `name` by `component`, or `None` if that name has
+    /// no value.
     pub fn get_below(&self, name: Name<'_>, component: Component<'_>) -> Option<&V>
         ensures { option_map (λ v. v.now) result ≡ map.get self.now.table
             (components name.entry ++ field_of component.entry ∷ []) }

@@ -119,7 +119,7 @@ impl<V: Drop> NameTrie<V> {
         }
     }
 
-    /// Returns the value of a name.
+    /// Returns the value of a name, or `None` if the name has no value.
     pub fn get(&self, name: Name<'_>) -> Option<&V>
         ensures { option_map (λ v. v.now) result ≡ map.get self.now.table (components name.entry) }
     {
@@ -135,7 +135,8 @@ impl<V: Drop> NameTrie<V> {
         list(alloc, &self.nodes, self.root)
     }
 
-    /// Returns the value that a longest prefix match of `name` finds.
+    /// Returns the value of the longest prefix of `name` that has a value, or `None` if no prefix
+    /// has a value. `name` counts as a prefix of itself.
     pub fn longest(&self, name: Name<'_>) -> Option<&V>
         ensures { option_map (λ v. v.now) result
             ≡ longest_in self.now.table (components name.entry) }
