@@ -1,4 +1,4 @@
--- Counts over all registered routes, for the contracts of private functions.
+-- Counts and the earliest deadline of registered routes, for the contracts of private functions.
 use Rattle.std.specs.Prelude.{ℕ, ◌+◌, ◌-◌, ◌^◌, List, Option, None, Some, fold, length, min}
 use Rattle.std.specs.FinMap as map
 use Rattle.name_trie.specs.ByName.{revised}

@@ -77,7 +77,7 @@ impl InRecord {
         &self.octets[..self.octets.len() - usize::from(self.token_len)]
     }
 
-    /// Returns the PIT token, if the Interest has one.
+    /// Returns the PIT token of the Interest, or `None` if the Interest has no token.
     pub fn token(&self) -> Option<&[u8]>
         ensures token { option_map (λ t. t.now) result ≡ self.now.token }
         ensures sizes { IfSome result (λ t. (1 ≤ length t.now) × (length t.now ≤ 32)) }
@@ -336,7 +336,8 @@ impl Entry {
         moments
     }
 
-    /// Returns the octets of the face's Interest.
+    /// Returns the octets of the Interest in the face's in-record, or `None` if the face has no
+    /// in-record.
     pub fn interest_of(&self, face: u64) -> Option<&[u8]>
         ensures { option_map (λ o. o.now) result
             ≡ option_map (λ r. r.interest) (map.get self.now.records.in_records face) }
@@ -345,7 +346,8 @@ impl Entry {
         Some(in_record.interest())
     }
 
-    /// Returns the PIT token of the face's Interest.
+    /// Returns the PIT token in the face's in-record. Returns `None` if the face has no in-record,
+    /// or if the in-record has no token.
     pub fn token_of(&self, face: u64) -> Option<&[u8]>
         ensures token { option_map (λ t. t.now) result ≡ option_and_then (λ r. r.token)
             (map.get self.now.records.in_records face) }
@@ -354,7 +356,7 @@ impl Entry {
         self.in_records.get(face)?.token()
     }
 
-    /// Returns the in-record of the face.
+    /// Returns the in-record of the face, or `None` if the face has no in-record.
     fn in_record_of(&self, face: u64) -> Option<&InRecord>
         ensures { option_map (λ r. r.now) result ≡ map.get self.now.records.in_records face }
     {

@@ -70,7 +70,7 @@ impl<V: Drop> FaceMap<V> {
         self.rows.is_empty()
     }
 
-    /// Returns the value of a face.
+    /// Returns the value of a face, or `None` if the face has no value.
     pub fn get(&self, face: u64) -> Option<&V>
         ensures { option_map (λ v. v.now) result ≡ map.get self.now.values face }
     {

@@ -34,7 +34,7 @@ pub const MAX_ENTRIES: usize = 4096;
 /// The greatest number of components of a name in a table.
 pub const MAX_DEPTH: usize = 32;
 
-/// The greatest number of registered routes.
+/// The greatest number of registered routes in a table.
 pub const MAX_ROUTES: usize = 16384;
 
 /// The table of next hops and registered routes by name (NFD Developer's Guide, "Forwarding
@@ -98,12 +98,12 @@ impl Fib {
         self.entries.len()
     }
 
-    /// Adds a next hop on a face, or sets the cost of the name's next hop on the face. The faces of
-    /// all next hops and routes, together with `face`, must be at most 64.
+    /// Adds a next hop on a face, or sets the cost of the name's next hop on the face. At most 64
+    /// different faces may have next hops or routes, with `face` counted among them.
     ///
-    /// On failure, returns the first fault in the order of `TableFault`, and leaves the table
-    /// unchanged. Each call ends the preparation, even if the call fails. `Memory` is never
-    /// returned for a name that has an entry or is prepared.
+    /// On failure, returns the first of the faults that apply, in the order of `TableFault`, and
+    /// leaves the table unchanged. Each call ends the preparation, even if the call fails. `Memory`
+    /// is never returned for a name that has an entry or is prepared.
     pub fn add(&mut self, name: Name<'_>, face: u64, cost: u64) -> Result<(), TableFault>
         requires { HasRoomFor self.old.table face }
         ensures ok { OnOk result
@@ -146,12 +146,13 @@ impl Fib {
     /// Registers a route. If `deadline` is a moment, in milliseconds since 1970, the route expires
     /// at that moment. In `flags`, the bit of value 1 means child-inherit, and the bit of value 2
     /// means capture. The route replaces the name's older route with the same face and origin, if
-    /// there is one. The faces of all next hops and routes, together with `face`, must be at most
-    /// 64.
+    /// there is one. At most 64 different faces may have next hops or routes, with `face` counted
+    /// among them.
     ///
-    /// On failure, returns the first fault in the order of `TableFault`, and leaves the table
-    /// unchanged. Each call ends the preparation, even if the call fails. The table is full for a
-    /// new name when it has 4,096 names, and for a new route when it has 16,384 routes.
+    /// On failure, returns the first of the faults that apply, in the order of `TableFault`, and
+    /// leaves the table unchanged. Each call ends the preparation, even if the call fails. The
+    /// table is full for a new name when it has 4,096 names, and for a new route when it has 16,384
+    /// routes.
     pub fn register(
         &mut self,
         name: Name<'_>,

@@ -61,7 +61,7 @@ impl Hops {
         }
     }
 
-    /// Inserts a hop in order.
+    /// Inserts a hop at its place in the order of the list.
     pub(crate) fn insert(&mut self, hop: Hop)
         requires { length self.old < MAX_FACES }
         ensures { self.new ≡ with_hop hop self.old }
@@ -104,7 +104,8 @@ impl Hops {
     }
 }
 
-/// Returns the index at which to insert a hop.
+/// Returns the index in `hops` at which to insert `hop`: the index of the first hop that comes
+/// after `hop`, or the length of `hops` if no hop comes after `hop`.
 fn place_of(hops: &[Hop], hop: Hop) -> usize
     ensures within { result ≤ length hops.now }
     ensures place { with_hop hop hops.now ≡ insert hops.now result hop }

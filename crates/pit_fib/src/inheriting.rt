@@ -85,8 +85,8 @@ fn counts_at(route: Route, at: Option<u64>) -> bool
     }
 }
 
-/// Returns whether some route counts. A route counts if it does not expire by `at`. If `at` is
-/// `None`, every route counts.
+/// Returns whether some route in `rows` counts. A route counts if it does not expire by `at`. If
+/// `at` is `None`, every route counts.
 fn has_route_at(rows: &[(RouteKey, Route)], at: Option<u64>) -> bool
     ensures { result ≡ has_route_at at rows.now }
 {
@@ -98,8 +98,8 @@ fn has_route_at(rows: &[(RouteKey, Route)], at: Option<u64>) -> bool
     false
 }
 
-/// Returns whether some capture route counts. A route counts if it does not expire by `at`. If `at`
-/// is `None`, every route counts.
+/// Returns whether some capture route in `rows` counts. A route counts if it does not expire by
+/// `at`. If `at` is `None`, every route counts.
 fn has_capture_at(rows: &[(RouteKey, Route)], at: Option<u64>) -> bool
     ensures { result ≡ has_capture_at at rows.now }
 {

@@ -71,9 +71,9 @@ pub fn routes_that_end_are_counted()
         (map.entries routes) }
 {}
 
-/// Law: when a change is applied to each value of a map by face, each value is replaced by the
-/// changed value, or is removed if the change gives None. A face without a value stays without a
-/// value.
+/// Law: when a change is applied to each value of a map from faces to values, each value is
+/// replaced by the changed value, or is removed if the change gives None. A face without a value
+/// stays without a value.
 pub fn revising_changes_each_value<V, W>()
     ensures { (change : V → Option W) (m : map.FinMap nat_cmp V) (face : ℕ)
         → map.get (revise change m) face ≡ option_and_then change (map.get m face) }

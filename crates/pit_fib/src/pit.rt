@@ -36,7 +36,7 @@ use std::alloc::Global;
 use std::marker::Model;
 use std::mem;
 
-/// The greatest number of keys with pending Interests.
+/// The greatest number of keys with pending Interests in a table.
 pub const MAX_PENDING: usize = MAX_ENTRIES;
 
 /// The pending Interest table (NFD Developer's Guide, "Pending Interest Table"). Under each key,
@@ -146,8 +146,8 @@ impl Pit {
     /// Records an Interest that arrived on a face. The in-record expires at `deadline`, in
     /// milliseconds since 1970. `interest` has the octets of the Interest, and `token` is its PIT
     /// token, of 1 to 32 octets (NDNLPv2, "PIT Token"). The new in-record replaces an older
-    /// in-record of the face under this key. The faces that have records, together with `face`,
-    /// must be at most 64.
+    /// in-record of the face under this key. At most 64 different faces may have records, with
+    /// `face` counted among them.
     ///
     /// On failure, the records are unchanged. An `arrive` that fails, or that is not the prepared
     /// one, ends the preparation. If the key is new and there are 4,096 keys, `arrive` fails with
@@ -260,9 +260,9 @@ impl Pit {
 
     /// Records that an Interest with this key and Nonce was sent to a face at the moment `now`, in
     /// milliseconds since 1970. The new out-record replaces an older out-record of the face under
-    /// this key. The key must have an in-record, and the faces that have records, together with
-    /// `face`, must be at most 64. A call that is not prepared ends the preparation, and may run
-    /// out of memory. If `sent` fails with `Memory`, the records are unchanged.
+    /// this key. The key must have an in-record, and at most 64 different faces may have records,
+    /// with `face` counted among them. A call that is not prepared ends the preparation, and may
+    /// run out of memory. If `sent` fails with `Memory`, the records are unchanged.
     pub fn sent(&mut self, key: Key<'_>, face: u64, nonce: [u8; 4], now: u64) -> Result<(), Memory>
         requires stands { is_alive (records_at self.old.pending (plain_key key)) ≡ true }
         requires room { HasRoomFor self.old.pending face }
@@ -302,7 +302,8 @@ impl Pit {
         }
     }
 
-    /// Returns the Interest of a face under this key, as it was received.
+    /// Returns the octets of the last Interest of a face under this key, as they were received.
+    /// Returns `None` if the face has no in-record under this key.
     pub fn interest_of(&self, key: Key<'_>, face: u64) -> Option<&[u8]>
         ensures { option_map (λ o. o.now) result ≡ option_map (λ r. r.interest)
             (map.get (records_at self.now.pending (plain_key key.entry)).in_records face) }
@@ -319,8 +320,9 @@ impl Pit {
         self.has_tokens
     }
 
-    /// Returns the PIT token that came with the Interest of a face under this key (NDNLPv2, "PIT
-    /// Token").
+    /// Returns the PIT token that came with the last Interest of a face under this key (NDNLPv2,
+    /// "PIT Token"). Returns `None` if the face has no in-record under this key, or if this
+    /// Interest has no token.
     pub fn token_of(&self, key: Key<'_>, face: u64) -> Option<&[u8]>
         ensures token { option_map (λ t. t.now) result ≡ option_and_then (λ r. r.token)
             (map.get (records_at self.now.pending (plain_key key.entry)).in_records face) }
@@ -475,7 +477,7 @@ impl Pit {
     }
 }
 
-/// Returns the entry of a key.
+/// Returns the entry of a key, or `None` if the key has no entry.
 fn entry_of<'a>(rows: &'a TimedMap<Row>, key: Key<'_>) -> Option<&'a Entry>
     ensures { option_map (λ e. e.now) result ≡ kept_at rows.now.table (plain_key key.entry) }
 {

@@ -110,8 +110,8 @@ impl Registered {
     }
 }
 
-/// Inserts a route in order, or replaces the route with the same key. `rows` must have capacity for
-/// one more route.
+/// Inserts a route into `rows` at its place in the order of the keys, or replaces the route with
+/// the same key. `rows` must have capacity for one more route.
 fn put(rows: &mut Vec<(RouteKey, Route)>, key: RouteKey, route: Route)
     requires sorted { T (map.is_sorted route_cmp rows.old.items) }
     requires room { vec_len rows.old < vec_capacity rows.old }

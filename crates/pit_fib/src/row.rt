@@ -54,7 +54,7 @@ impl Row {
         self.slots
     }
 
-    /// Returns the entry under the key with these flags.
+    /// Returns the entry under the key with these flags, or `None` if this key has no entry.
     pub fn get(&self, flags: Flags) -> Option<&Entry>
         ensures { option_map (λ e. e.now) result ≡ map.get self.now flags }
     {

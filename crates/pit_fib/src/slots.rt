@@ -64,7 +64,7 @@ impl Slots {
         }
     }
 
-    /// Returns the entry under the key with these flags.
+    /// Returns the entry under the key with these flags, or `None` if this key has no entry.
     pub fn get(&self, flags: Flags) -> Option<&Entry>
         ensures { option_map (λ e. e.now) result ≡ map.get self.now flags }
     {
@@ -76,7 +76,8 @@ impl Slots {
         }
     }
 
-    /// Removes the entry under the key with these flags, and returns it.
+    /// Removes the entry under the key with these flags, and returns this entry. Returns `None` if
+    /// the key has no entry.
     pub fn take(&mut self, flags: Flags) -> Option<Entry>
         ensures value { result ≡ map.get self.old flags }
         ensures left { self.new ≡ map.remove self.old flags }

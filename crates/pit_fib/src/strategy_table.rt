@@ -90,9 +90,9 @@ impl StrategyTable {
 
     /// Sets the strategy of a name.
     ///
-    /// On failure, returns the first fault in the order of `TableFault`, and leaves the table
-    /// unchanged. Each call ends the preparation, even if the call fails. `Memory` is never
-    /// returned for a name that has a strategy, such as `/`, or is prepared.
+    /// On failure, returns the first of the faults that apply, in the order of `TableFault`, and
+    /// leaves the table unchanged. Each call ends the preparation, even if the call fails. `Memory`
+    /// is never returned for a name that has a strategy, such as `/`, or is prepared.
     pub fn set(&mut self, name: Name<'_>, strategy: StrategyId) -> Result<(), TableFault>
         ensures ok { OnOk result
             (self.new.table ≡ map.insert self.old.table (components name.entry) strategy) }
@@ -196,8 +196,8 @@ impl StrategyTable {
         Ok(are_same(&choices, &others))
     }
 
-    /// Shows all names in canonical order, each with its strategy. On failure, some names may have
-    /// been shown already.
+    /// Shows all names to the visitor `show`, in canonical order, each with its strategy. On
+    /// failure, some names may have been shown already.
     pub fn show_all<S: Show<StrategyId>>(&self, show: &mut S) -> Result<(), Memory>
         ensures { OnOk result
             (show.new ≡ shown_each S.shown show.old (map.entries self.now.table)) }
