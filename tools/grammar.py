@@ -1,7 +1,8 @@
 """An independent packet reader, for `damaged`. The function `read` decodes a packet, or raises its first fault.
 
-The tables follow NDN Packet Format 0.3 and NDNLPv2. Where these standards leave a choice, the tables follow
-`docs/DECISIONS.md` ("The profile"). The module shares no code with the node's reader.
+The tables of fields follow NDN Packet Format 0.3 and NDNLPv2. Where these standards leave a choice,
+the tables follow `docs/DECISIONS.md` ("The profile"). The module shares no code with the node's
+reader.
 
 `read` checks the octets in this order. The words in parentheses are the faults.
 
@@ -11,14 +12,17 @@ The tables follow NDN Packet Format 0.3 and NDNLPv2. Where these standards leave
 3. An Interest or a Data has at most 8,800 octets (TooLong).
 4. An Interest or a Data begins with a Name, and the Name of an Interest is not empty (NoName). If the first element
    cannot be read, the fault is Tlv.
-5. The elements inside, from left to right: each element can be read (Tlv), is allowed at its place (CriticalUnknown, or
-   LpField in a link packet), and has a valid value. A missing SignatureType is reported at the end of its SignatureInfo
-   (BadField).
-6. No other field is missing (NoNonce in an Interest, BadField in a Data). In a link packet, a Nack needs a Fragment
-   (BadField).
+5. The elements inside, from left to right: each element can be read (Tlv), is allowed at its place
+   (CriticalUnknown, or LpField in a link packet), and has a valid value (mostly BadField; LpField
+   for a PIT token; Fragmented for a FragIndex or FragCount that is too large). The elements inside
+   a MetaInfo, a SignatureInfo and a Nack are checked in the same way. A missing SignatureType is
+   reported at the end of its SignatureInfo (BadField).
+6. No other mandatory field is missing (NoNonce in an Interest, BadField in a Data). In a link
+   packet, a Nack needs a Fragment (BadField).
 7. In an Interest, the digest of the parameters is valid (DigestMissing, DigestWrong, DigestWithout).
 
-The value of a Fragment is checked by the steps 2 to 7. It must be an Interest or a Data, and in a Nack an Interest.
+The value of a Fragment is checked by the steps 2 to 7. It must be an Interest or a Data, or, if the
+link packet has a Nack, an Interest (BadField).
 """
 
 import collections
@@ -136,9 +140,10 @@ class Fields:
     `table` maps the types of the fields, in this order, to the readers for their values. `after` maps a type to the
     type of a field that must precede it. `needed` has the types of the mandatory fields.
 
-    An element is a field if its type is in the table, after the type of the last field, and if the field that `after`
-    names has been read. Any other element is ignored if its type is in `ignored`, or is even and at least 32. Otherwise
-    the fault is CriticalUnknown.
+    An element is a field if its type is in the table, after the type of the field that was read
+    last, and if the field that must precede it according to `after`, if any, has been read. Any
+    other element is ignored if its type is in `ignored`, or is even and at least 32. Otherwise the
+    fault is CriticalUnknown.
     """
 
     def __init__(self, table, after=(), ignored=(), needed=()):
@@ -162,8 +167,9 @@ class Fields:
         return found, places
 
     def comes_next(self, kind, last, found):
-        """Returns whether an element of the type `kind` is a field, if `last` is the index of the last field in the
-        table, and `found` has the fields before the element."""
+        """Returns whether an element of the type `kind` is a field. `last` is the index in the
+        table of the field that was read last, or -1 if there is none. `found` has all fields that
+        were read."""
         return self.order.get(kind, -1) > last and (kind not in self.after or self.after[kind] in found)
 
     def value(self, octets):
@@ -223,7 +229,8 @@ def begins_with_name(value, may_be_empty):
 
 
 def signature_of(info, value, covered):
-    """Returns the Signature with the fields `info` of a SignatureInfo."""
+    """Returns the Signature with the fields `info` of its SignatureInfo, the octets `value` of the
+    signature, and the octets `covered` that it covers."""
     return Signature(info[27], info.get(28), info.get(40), info.get(42), value, covered)
 
 
@@ -339,7 +346,8 @@ def begins(name, prefix):
 
 
 def order(name):
-    """Returns the key that sorts names into canonical order."""
+    """Returns the sort key of a name. Names that are sorted by these keys are in canonical
+    order."""
     parts = (element(part) for part in name)
     return [(part.kind, len(part.value), part.value) for part in parts]
 

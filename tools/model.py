@@ -1,7 +1,8 @@
 """A simple model of a node, for `damaged`. It computes the answer that the documents require for an event.
 
-The model follows `docs/SCRIPTS.md` ("What the node does with a packet"), `docs/MANAGEMENT.md` and `docs/RULES.md`, as
-far as the cases of `damaged` need it. It keeps its state in dictionaries and lists, and reads packets with `grammar`.
+The model follows `docs/SCRIPTS.md` ("What the node does with a packet"), `docs/MANAGEMENT.md` and
+`docs/RULES.md`, as far as the cases of `damaged` require. It keeps its state in dictionaries and
+lists, and reads packets with `grammar`.
 
 - The only strategy is best-route.
 - The only commands are `fib/add-nexthop`, `fib/remove-nexthop` and those of the repository.
@@ -30,8 +31,9 @@ class Beyond(Exception):
 
 
 class Rule:
-    """A rule for names under `prefix`. If `checks` is true, the rule has one checker, which requires an HMAC under
-    `key`, or a SHA-256 digest if `key` is None. Otherwise the rule has no checker, and denies each packet."""
+    """A rule for names under `prefix`. If `checks` is true, the rule has one checker, which
+    requires an HMAC under `key`, or a SHA-256 digest if `key` is None. Otherwise the rule has no
+    checker, and denies each packet to which it applies."""
 
     def __init__(self, identity, kind, prefix=(), key=None, checks=True):
         self.identity, self.kind, self.prefix, self.key, self.checks = identity, kind, prefix, key, checks
@@ -63,15 +65,17 @@ class Entry:
 
 
 class Asker:
-    """An in-record: the Nonce, octets, deadline and PIT token of the Interest that arrived on the face."""
+    """An in-record of a face: the Nonce, octets, deadline and PIT token of the last Interest that
+    arrived on this face for the PIT entry."""
 
     def __init__(self, nonce, whole, deadline, token):
         self.nonce, self.whole, self.deadline, self.token = nonce, whole, deadline, token
 
 
 class Asked:
-    """An out-record: the Nonce of the Interest that was sent to the face, the moment at which it was sent, and the
-    reason of the Nack that came back, or None if no Nack came back."""
+    """An out-record of a face: the Nonce of the last Interest that was sent to this face for the
+    PIT entry, the moment at which this Interest was sent, and the reason of the Nack that came back
+    for it, or None if no Nack came back."""
 
     def __init__(self, nonce, moment):
         self.nonce, self.moment, self.reason = nonce, moment, None
@@ -123,12 +127,13 @@ def first_fields(component, kind):
 class Node:
     """The state of the node.
 
-    `now` is the node's time, and `up` maps the open faces to their scopes. `version` is the version number that the
-    node gives to its list of routes (/localhost/nfd/fib/list). `hops` maps a name to the costs of its next hops, by
-    face. `pending` maps a name and its flags to a PIT entry. `cached` has pairs of a cached Data and the moment at
-    which it arrived. `last` maps a signer to the time of its last allowed command, and to the last sequence number, if
-    any, of its allowed commands. `wants` maps the name and the CanBePrefix of a pending insert to its deadline.
-    `objects` maps full names to stored Data.
+    `now` is the node's time, and `up` maps the open faces to their scopes. `version` is the version
+    number that the node gives to its list of routes (/localhost/nfd/fib/list). `hops` maps a name
+    to the costs of its next hops, by face. `pending` maps the name, the CanBePrefix and the
+    MustBeFresh of Interests to their PIT entry. `cached` has pairs of a cached Data and the moment
+    at which it arrived. `last` maps a signer to the time of its last allowed command, and to the
+    last sequence number, if any, of its allowed commands. `wants` maps the name and the CanBePrefix
+    of a pending insert to its deadline. `objects` maps full names to stored Data.
     """
 
     def __init__(self, rules, keys):
@@ -258,8 +263,9 @@ class Node:
         return [(cost, hop) for cost, hop in hops if hop != asker and not (local_alone and self.up[hop] == "far")]
 
     def forward(self, key, face, interest, token):
-        """Forwards an Interest, or sends it back in a Nack if there is no eligible next hop. `key` is the name
-        and the flags of the Interest."""
+        """Sends an Interest back in a Nack if it has no eligible next hop. Otherwise records it in
+        its PIT entry, and forwards it to the next hop, if any, that `best_route` chooses. `key` is
+        the name and the flags of the Interest."""
         entry = self.pending.get(key, Entry())
         limit = g.hop_limit(interest)
         eligible = self.eligible(key[0], face, limit == 1)
@@ -442,10 +448,11 @@ class Node:
     # The list of routes.
 
     def segment_asked(self, interest):
-        """Returns a pair: the version of the list of routes for which an Interest asks, and the number of the segment.
-        The version is None if the Interest asks for the current version. Returns None instead of the pair if the
-        Interest does not ask for a segment of this list. Raises Beyond if the Interest's name is under the name of the
-        list of strategies."""
+        """Returns a pair: the version of the list of routes for which an Interest asks, and the
+        number of the segment. The version is None if the Interest's name has no version: then the
+        Interest asks for the current one. Returns None instead of the pair if the Interest does not
+        ask for a segment of this list. Raises Beyond if the Interest's name is under the name of
+        the list of strategies."""
         name, of_routes = interest.name, p.name("/localhost/nfd/fib/list")
         if g.begins(name, p.name("/localhost/nfd/strategy-choice/list")):
             raise Beyond("the list of strategies")
@@ -464,8 +471,9 @@ class Node:
         return (numbers[0] if numbers else None), 0
 
     def segment(self, version, k):
-        """Returns the octets of segment `k` of the list of routes. Returns None if the list does not have this version
-        or this segment."""
+        """Returns the octets of the Data with segment `k` of the list of routes. Returns None if
+        the list has no such segment, or if `version` is neither None nor the version of the
+        list."""
         if version not in (None, self.version):
             return None
         text = b""

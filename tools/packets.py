@@ -35,8 +35,8 @@ def tlv(kind, *parts):
 
 
 def integer(kind, n):
-    """Encodes an element whose value is n, as a NonNegativeInteger in its shortest form. Raises ValueError if n has
-    more than 64 bits."""
+    """Encodes an element of the type `kind`, whose value is n as a NonNegativeInteger in its
+    shortest form. Raises ValueError if n has more than 64 bits."""
     for width in (1, 2, 4, 8):
         if n < 1 << 8 * width:
             return tlv(kind, n.to_bytes(width, "big"))
@@ -65,9 +65,10 @@ class Key:
 
 
 def signature_info(kind, key, time=None, number=None):
-    """Encodes a SignatureInfo (`kind` 22) or an InterestSignatureInfo (`kind` 44). The signature type is
-    HmacWithSha256, or DigestSha256 if `key` is None. `time` is the SignatureTime, and `number` is the
-    SignatureSeqNum."""
+    """Encodes a SignatureInfo (`kind` 22) or an InterestSignatureInfo (`kind` 44). The signature
+    type is HmacWithSha256 with the name of `key` in the KeyLocator, or DigestSha256 if `key` is
+    None. `time` is the SignatureTime, and `number` is the SignatureSeqNum. If one of them is None,
+    its field is left out."""
     parts = [integer(27, 0 if key is None else 4)]
     if key is not None:
         parts.append(tlv(28, tlv(7, *key.name)))

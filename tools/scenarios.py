@@ -81,8 +81,8 @@ class Scenario:
         return packet
 
     def order(self, verb, of, face=None, status=200, **fields):
-        """Adds a command to the node, and returns it. The command arrives on face 1 and is allowed. `status` is the
-        status of the reply."""
+        """Adds an event with a command to the node, and returns the command. It arrives on face 1
+        and is allowed. `status` is the status of the reply."""
         self.time += 1
         packet = p.command(p.node_name(verb, of, face, **fields), self.nonce(), OPERATOR, self.time)
         self.comes(1, packet, f"allowed {status} ops", 1)
@@ -94,17 +94,18 @@ class Scenario:
             self.order("fib/add-nexthop", of, face)
 
     def store(self, verb, of, status, *faces, **fields):
-        """Adds a command to the repository, and returns it. The command arrives on face 1 and is allowed. `faces` are
-        the faces to which the node sends its own Interest for the Data."""
+        """Adds an event with a command to the repository, and returns the command. It arrives on
+        face 1 and is allowed. `faces` are the faces to which the node sends its own Interest for
+        the Data."""
         self.time += 1
         packet = p.command(p.repository_name(verb, of, **fields), self.nonce(), SECOND, self.time)
         self.comes(1, packet, f"allowed {status} repo-ops", 1, *faces)
         return packet
 
     def list(self, which="fib", version=None, segment=0, verdict="passed"):
-        """Adds an Interest for the list of routes (`fib`) or of strategies (`strategy`), which arrives on face 1. The
-        Interest asks for this segment of this version. Without a version it asks for the first segment of the current
-        version."""
+        """Adds an Interest, which arrives on face 1, for the list of routes (`which` is `fib`) or
+        of strategies (`strategy`). The Interest asks for this segment of this version. Without a
+        version it asks for the first segment of the current version."""
         of = p.name(f"/localhost/nfd/{which}{'' if which == 'fib' else '-choice'}/list")
         if version is not None:
             of += (p.integer(p.VERSION, version), p.integer(p.SEGMENT, segment))
@@ -195,9 +196,10 @@ def commands_and_their_times():
 
 
 def deadlines():
-    """Tests several deadlines, each with two events. The moment of the first event is the deadline or later. The moment
-    of the second event is before the deadline, and the answer shows that the entry has expired. Without the first event
-    the entry would not have expired."""
+    """Tests deadlines of pending Interests and of a pending insert, each with two events. The
+    moment of the first event is the deadline or later. The moment of the second event is before the
+    deadline, and its answer shows that the Interest or insert has expired. Without the first event
+    the Interest or insert would not have expired."""
     s = Scenario("deadlines")
     s.up(1, 2, 3)
     s.route(A, 2)
