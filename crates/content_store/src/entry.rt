@@ -61,7 +61,7 @@ impl Entry {
         })
     }
 
-    /// Updates the FreshnessPeriod and the moment of arrival.
+    /// Sets the FreshnessPeriod to `freshness` and the moment of arrival to `arrival`.
     pub fn renew(&mut self, freshness: u64, arrival: u64)
         ensures { self.new ≡ record self.old { freshness = freshness; arrival = arrival } }
     {

@@ -88,7 +88,8 @@ fn lower_bound(entries: &Slab<Row>, order: &Places, sought: Sought<'_>, steps: &
     low
 }
 
-/// Returns the position of the first Data that can serve an Interest of this key.
+/// Returns the position of the first Data that can serve an Interest of this key, or `None` if no
+/// Data can serve it.
 fn first_serving(
     entries: &Slab<Row>,
     order: &Places,
@@ -110,9 +111,9 @@ fn first_serving(
     first_from(entries, order, blocks, start, key, now)
 }
 
-/// Returns the position of the first Data that can serve an Interest of this key. `start` must be
-/// the position of the first row whose full name is not less than the key's name, or the length of
-/// the list if there is no such row.
+/// Returns the position of the first Data that can serve an Interest of this key, or `None` if no
+/// Data can serve it. `start` must be the position of the first row whose full name is not less
+/// than the key's name, or the length of the list if there is no such row.
 fn first_from(
     entries: &Slab<Row>,
     order: &Places,
@@ -184,7 +185,8 @@ impl Rows {
         }
     }
 
-    /// Returns the position of the first Data that can serve an Interest of this key.
+    /// Returns the position of the first Data that can serve an Interest of this key, or `None` if
+    /// no Data can serve it.
     pub fn first_serving(&self, key: Key<'_>, now: u64, steps: &mut u64) -> Option<usize>
         requires short { length self.now < 131072 }
         requires room { steps.old ≤ 2 ^ 64 - 1 - 17 }
@@ -209,9 +211,9 @@ impl Rows {
         }
     }
 
-    /// Returns the position of the first Data that can serve an Interest of this key. No binary
-    /// search is made if `place` is the position of the first row whose full name is not less than
-    /// the key's name.
+    /// Returns the position of the first Data that can serve an Interest of this key, or `None` if
+    /// no Data can serve it. No binary search is made if `place` is the position of the first row
+    /// whose full name is not less than the key's name.
     pub fn first_at(&self, place: usize, key: Key<'_>, now: u64) -> Option<usize>
         requires { length self.now < 131072 }
         ensures { FirstWith (CanServe (plain_key key.entry) now) self.now result }
@@ -300,7 +302,8 @@ impl Rows {
         }
     }
 
-    /// Updates the FreshnessPeriod and the moment of arrival of the Data at position `at`.
+    /// Sets, for the Data at position `at`, the FreshnessPeriod to `freshness` and the moment of
+    /// arrival to `arrival`.
     pub fn renew(&mut self, at: usize, freshness: u64, arrival: u64)
         requires { at < length self.old }
         ensures rows { (d : Placed) → let r = slice_index_or self.old at d in self.new

@@ -51,7 +51,7 @@ followed (Ok a) (Err f) = Err f
 followed (Err e) (Ok others) = Err e
 followed (Err e) (Err f) = Err (sooner_of e f)
 
--- the values of all keys, in order, or the fault that is reported
+-- the values that `f` reads from the keys, in the order of the keys, or the fault that is reported
 unfoldable pub each : {A : Type 0} → (Block → Found A) → List Block → Found (List A)
 each f [] = Ok []
 each f (key ∷ keys) = followed (f key) (each f keys)

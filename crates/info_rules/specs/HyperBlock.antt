@@ -64,7 +64,7 @@ hyper_with (Some key) (Some relation) (Some packet) = Some (record {
   packet_template = packet.1;
 })
 
--- the hyper-relation, if all its parts are present
+-- the hyper-relation, or `None` if a part of it is absent
 abbrev pub hyper_made : (Half × Option Relation) × Half → Found (Option PlainHyper)
 hyper_made parts = Ok (hyper_with parts.0.0 parts.0.1 parts.1)
 
@@ -81,7 +81,7 @@ hyper_of needed line keys = beside (after None (walk_faults blocks.Hyper keys))
     (beside (missing_unless (not needed || is_whole keys) line)
     (then_made hyper_made (parts_in keys)))
 
--- the hyper-relation that a key `hyper-relation` states, if all parts of the hyper-relation are
--- present, or the fault that is reported
+-- the hyper-relation that a key `hyper-relation` states, `None` if a part of the hyper-relation is
+-- absent, or the fault that is reported
 unfoldable pub hyper_in : Bool → Block → Found (Option PlainHyper)
 hyper_in needed key = block_in 4 (hyper_of needed) key

@@ -47,14 +47,14 @@ abbrev pub is_other : Option Form → Form → Bool
 is_other None form = true
 is_other (Some other) form = not (is_form other form)
 
--- the form and the line of a key, if the key belongs to a form, and this form is not `other`
+-- the form and the line of a key, or `None` if the key belongs to no form or to the form `other`
 abbrev pub other_form_of : Tested → Option Form → Block → Option (Form × ℕ)
 other_form_of tested other key =
     on_option (λ form. if is_other other form then Some (form, key.0.line) else None) None
     (form_of tested key)
 
 -- the form and the line of the first key that belongs to a form other than `other`, or to any form
--- if `other` is `None`
+-- if `other` is `None`; the result is `None` if there is no such key
 abbrev pub first_other : Tested → Option Form → List Block → Option (Form × ℕ)
 first_other tested other keys = first_of (filter_map (other_form_of tested other) keys)
 
@@ -67,7 +67,7 @@ half_fault line keys forms.Matching = None
 half_fault line keys forms.Hyper = None
 
 -- the fault `BadValue` of the first key that belongs to a form other than `form`; without such a
--- key, the fault `Missing` if a key that `form` needs is absent
+-- key, the fault `Missing` if a key that `form` needs is absent, otherwise `None`
 abbrev pub second_fault : Tested → ℕ → List Block → Form → Option RulesFault
 second_fault tested line keys form =
     on_option (λ second. Some (record { line = second.1; kind = BadValue }))
@@ -103,7 +103,8 @@ abbrev pub test_with : Option (List Field) × Option Relation → Option PlainPa
 test_with related (Some pattern) = Some (Matching pattern)
 test_with related None = related_of related.0 related.1
 
--- the requirement on a name, made from the parts that are present
+-- the requirement on a name: if there is a pattern, it is made from the pattern, otherwise from the
+-- name and the relation; `None` if there is no pattern, and the name or the relation is absent
 abbrev pub test_of : Names → Option NameTest
 test_of names = test_with names.0 names.1
 

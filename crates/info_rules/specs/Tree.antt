@@ -25,6 +25,6 @@ parted depth (entry ∷ entries) =
     then ([], (entry, (parted depth entries).0) ∷ (parted depth entries).1)
     else (entry ∷ (parted depth entries).0, (parted depth entries).1)
 
--- the entries at this depth, each with its block
+-- the entries at this depth, each with the entries of its block
 abbrev pub blocks_of : ℕ → List PlainEntry → List Block
 blocks_of depth entries = (parted depth entries).1

@@ -81,7 +81,7 @@ tokens_from mode line [] = with_ended line (ended_at_end mode) []
 tokens_from mode line (o ∷ text) =
     with_ended line (ended_by mode o) (tokens_from (mode_after mode o) (line_after line o) text)
 
--- the number of octets before the closing quote, if the quoted text is closed on its line;
+-- the number of octets before the closing quote, or `None` if the text is not closed on its line;
 -- `escaped` is true if the octet directly before the given octets is a backslash
 unfoldable pub quoted_len : Bool → List ℕ → Option ℕ
 quoted_len escaped [] = None

@@ -47,7 +47,7 @@ ghost use Rattle.std.specs.Option.{option_map};
 ghost use Rattle.info_rules.specs.NameTest.{other_form_of, first_other};
 ghost use Rattle.info_rules.specs.Shown.{key_of, keys_of, tested_of, name_form_of, found_form_of};
 
-/// Returns the form and the line of `key`, if `key` belongs to a form, and this form is not
+/// Returns the form and the line of `key`, or `None` if `key` belongs to no form or to the form
 /// `other`.
 fn other_form_of(tested: Tested, other: Option<Form>, key: Key<'_>) -> Option<(Form, u32)>
     ensures { option_map found_form_of result
@@ -61,7 +61,7 @@ fn other_form_of(tested: Tested, other: Option<Form>, key: Key<'_>) -> Option<(F
 }
 
 /// Returns the form and the line of the first key that belongs to a form other than `other`, or to
-/// any form if `other` is `None`.
+/// any form if `other` is `None`. Returns `None` if there is no such key.
 pub fn first_other(tested: Tested, other: Option<Form>, keys: Keys<'_>) -> Option<(Form, u32)>
     ensures { option_map found_form_of result
         ≡ first_other (tested_of tested) (option_map name_form_of other) (keys_of keys.entry) }

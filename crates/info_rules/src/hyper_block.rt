@@ -35,7 +35,7 @@ fn groups_of(pattern: &Found<Option<Pattern>>) -> u8
     }
 }
 
-/// Pairs the two values, if both are present.
+/// Returns the pair of the two values, `None` if one of them is absent, or the fault in `parts`.
 fn zipped<A: Drop, B: Drop>(parts: Found<(Option<A>, Option<B>)>) -> Found<Option<(A, B)>>
     ensures { result ≡ shown (λ parts. option_zip parts.0 parts.1) parts }
 {
@@ -43,7 +43,9 @@ fn zipped<A: Drop, B: Drop>(parts: Found<(Option<A>, Option<B>)>) -> Found<Optio
     Ok(first.zip(second))
 }
 
-/// Reads a pattern, and a template that uses the groups of this pattern.
+/// Reads a pattern from the first key that is `pattern_word`. Reads a template, which uses the
+/// groups of this pattern, from the first key that is `template_word`. Returns `None` if one of
+/// these two keys is absent.
 #[tactic(auto, unfolding(crate::specs::HyperBlock::half_in))]
 fn read_half(alloc: Global, keys: Keys<'_>, pattern_word: &str, template_word: &str) -> Read<Half>
     ensures read { IfOk result
@@ -67,7 +69,7 @@ fn is_whole(keys: Keys<'_>) -> bool
         && keys.has("p-expand")
 }
 
-/// Makes a hyper-relation from its parts, if all are present.
+/// Makes a hyper-relation from its parts. Returns `None` if a part is absent.
 fn hyper_with(key: Half, relation: Option<Relation>, packet: Half) -> Option<HyperRelation>
     requires key { spec.HasGroups key }
     requires packet { spec.HasGroups packet }
@@ -87,7 +89,8 @@ fn hyper_with(key: Half, relation: Option<Relation>, packet: Half) -> Option<Hyp
 /// absent.
 type Parts = ((Half, Option<Relation>), Half);
 
-/// Makes a hyper-relation from its parts, if all are present.
+/// Makes a hyper-relation from its parts. Returns `None` if a part is absent, or the fault if
+/// `parts` is a fault.
 fn made_of(parts: Found<Parts>) -> Found<Option<HyperRelation>>
     requires { IfOk parts spec.HaveGroups }
     ensures { result ≡ then_made spec.hyper_made parts }
@@ -96,7 +99,7 @@ fn made_of(parts: Found<Parts>) -> Found<Option<HyperRelation>>
     Ok(hyper_with(key, relation, packet))
 }
 
-/// Reads the hyper-relation that the keys state, if all its parts are present.
+/// Reads the hyper-relation that the keys state. Returns `None` if a part of it is absent.
 #[tactic(auto, unfolding(crate::specs::HyperBlock::parts_in))]
 fn read_hyper(alloc: Global, keys: Keys<'_>) -> Read<Option<HyperRelation>>
     ensures { IfOk result

@@ -24,7 +24,7 @@ impl<'a> Key<'a> {
         self.own.key.as_str() == word
     }
 
-    /// Returns the key's value, if the key has a value and no block.
+    /// Returns the key's value, or `None` if the key has a block or no value.
     pub fn value(self) -> Option<&'a str>
         ensures { option_map (λ text. text.now) result ≡ value_of (key_of self.entry) }
     {
@@ -67,7 +67,8 @@ impl<'a> Keys<'a> {
     ghost use Rattle.info_rules.specs.Keys.{first_of, others_of, named, is_there};
     ghost use Rattle.info_rules.specs.Shown.{entry_of, key_of, keys_of};
 
-    /// Returns the entries before the first key, and the entries from the first key on.
+    /// Returns the entries before the first key, and the entries from the first key on. If there is
+    /// no key, the first list has all entries.
     fn parted(self) -> (&'a [Entry], &'a [Entry])
         ensures parted { parted self.entry.depth (map entry_of self.entry.entries.now)
             ≡ (map entry_of result.0.now, (parted self.entry.depth (map entry_of result.1.now)).1) }
@@ -82,7 +83,7 @@ impl<'a> Keys<'a> {
         (self.entries, &[])
     }
 
-    /// Returns the first key and the keys after it.
+    /// Returns the first key and the keys after it, or `None` if there are no keys.
     pub fn split_first(self) -> Option<(Key<'a>, Keys<'a>)>
         ensures { MatchOption result (keys_of self.entry ≡ [])
             (λ parts. (keys_of self.entry ≡ key_of parts.0 ∷ keys_of parts.1)
@@ -94,7 +95,7 @@ impl<'a> Keys<'a> {
         Some((Key { own, inner }, Keys { entries, ..self }))
     }
 
-    /// Returns the first key that is `word`, and the keys after it.
+    /// Returns the first key that is `word` and all keys after it, or `None` if no key is `word`.
     pub fn find(self, word: &str) -> Option<(Key<'a>, Keys<'a>)>
         ensures first { option_map (λ parts. key_of parts.0) result
             ≡ first_of (named word.now (keys_of self.entry)) }
@@ -112,7 +113,7 @@ impl<'a> Keys<'a> {
         None
     }
 
-    /// Returns the first key that is `word`.
+    /// Returns the first key that is `word`, or `None` if no key is `word`.
     pub fn first_named(self, word: &str) -> Option<Key<'a>>
         ensures { option_map key_of result ≡ first_of (named word.now (keys_of self.entry)) }
     {

@@ -44,7 +44,8 @@ pub fn passes_locator(alloc: Global, test: &LocatorTest, key: Name<'_>, packet: 
 }
 
 /// Returns whether the name expanded from the key's name has the relation `hyper.relation` to the
-/// name expanded from the packet's name.
+/// name expanded from the packet's name. The result is false if one of the two names does not match
+/// its pattern or expands to a name that is too long.
 fn is_hyper_related(alloc: Global, hyper: &HyperRelation, key: Name<'_>, packet: Name<'_>) -> Passed
     ensures { MatchResult result
         (λ related. IsTrue related

@@ -21,8 +21,9 @@ type Names = ((Option<NameBuf>, Option<Relation>), Option<Pattern>);
 /// The requirement on a name, if the block has one.
 pub type Asked = Option<NameTest>;
 
-/// Returns the fault of the first key that belongs to a form other than `form`. If there is no such
-/// key, returns the fault `Missing` if a key that `form` needs is absent.
+/// Returns the fault `BadValue` of the first key that belongs to a form other than `form`. If there
+/// is no such key, but a key that `form` needs is absent, returns the fault `Missing`. Otherwise
+/// returns `None`.
 fn second_fault(tested: Tested, line: u32, keys: Keys<'_>, form: Form) -> Option<RulesFault>
     ensures { result
         ≡ spec.second_fault (tested_of tested) line (keys_of keys.entry) (name_form_of form) }
@@ -46,7 +47,9 @@ fn form_fault(tested: Tested, line: u32, keys: Keys<'_>) -> Option<RulesFault>
     }
 }
 
-/// Makes the requirement on a name from the parts that are present.
+/// Makes the requirement on a name. If there is a pattern, it is made from the pattern, otherwise
+/// from the name and the relation. Returns `None` if there is no pattern, and the name or the
+/// relation is absent.
 fn test_of(names: Names) -> Option<NameTest>
     ensures { result ≡ spec.test_of names }
 {

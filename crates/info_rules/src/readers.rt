@@ -17,9 +17,9 @@ use name_patterns::{PatternFault, Template};
 use ndn_tlv::Memory;
 use std::alloc::Global;
 
-/// Reads the value of the first key that is `word`, if there is one. If the value is invalid,
-/// returns a fault of the kind `kind`. If the key has no value, or has a block, returns the fault
-/// `BadValue`.
+/// Reads the value of the first key that is `word`. Returns `None` if no key is `word`. If the
+/// value is invalid, returns a fault of the kind `kind`. If the key has no value, or has a block,
+/// returns the fault `BadValue`.
 #[tactic(auto, unfolding(crate::specs::Values::value_in))]
 pub fn read_value<V: Value>(
     alloc: Global,
@@ -86,9 +86,9 @@ pub fn read_name_word(keys: Keys<'_>, word: &str) -> Found<Option<()>>
     Err(RulesFaultKind::BadValue.at(key.own.line))
 }
 
-/// Checks the type of a trust anchor, if the block has a key `type`. The type `any` has the fault
-/// `AnyAnchor`. An unknown type, or a key that has a block or has no value, has the fault
-/// `BadValue`.
+/// Checks the type of a trust anchor: the value of the first key `type`. Returns `None` if there is
+/// no such key. The type `any` has the fault `AnyAnchor`. An unknown type, or a key `type` that has
+/// a block or has no value, has the fault `BadValue`.
 #[tactic(auto, unfolding(crate::specs::Values::anchor_value_in))]
 pub fn read_anchor_type(keys: Keys<'_>) -> Found<Option<()>>
     ensures { result ≡ anchor_value_in (keys_of keys.entry) }

@@ -17,7 +17,7 @@ pub fn note(report: &mut Report, fault: RulesFault)
 }
 
 /// Law: the fault that is reported for a list of faults is in the list, and no fault of the list is
-/// sooner. No fault is reported if and only if the list is empty.
+/// sooner than the reported fault. No fault is reported if and only if the list is empty.
 pub fn the_least_is_reported()
     ensures { (faults : List RulesFault)
         → MatchOption (after None faults) (faults ≡ [])

@@ -31,7 +31,8 @@ use std::alloc::Global;
 /// The greatest number of rules in a file.
 const MAX_RULES: usize = 256;
 
-/// Returns the first key `id` in the block of `key`, if `key` is a rule.
+/// Returns the first key `id` in the block of `key`. Returns `None` if the block has no key `id`,
+/// or if `key` is not a rule.
 #[tactic(auto, unfolding(crate::specs::RuleFile::id_key))]
 fn id_key(key: Key<'_>) -> Option<Key<'_>>
     ensures { option_map key_of result ≡ id_key (key_of key.entry) }
@@ -55,7 +56,7 @@ fn judge_same_id(id: &str, key: Key<'_>, report: &mut Report)
     }
 }
 
-/// Adds a fault to the report for each rule in `later` that has the same id as the rule `key`.
+/// For each rule in `later` that has the same id as the rule `key`, adds a fault to the report.
 #[tactic(auto, using(crate::proofs::Reports::after_first, crate::proofs::Reports::after_no, crate::proofs::Reports::after_none), unfolding(crate::specs::RuleFile::repeated_faults))]
 fn judge_repeated(key: Key<'_>, later: Keys<'_>, report: &mut Report)
     ensures { report.new
@@ -71,7 +72,7 @@ fn judge_repeated(key: Key<'_>, later: Keys<'_>, report: &mut Report)
     }
 }
 
-/// Adds a fault to the report for each rule that has the same id as an earlier rule.
+/// For each pair of rules with the same id, adds the fault of the later rule to the report.
 #[tactic(auto, using(crate::proofs::Reports::after_append), unfolding(crate::specs::RuleFile::id_faults, crate::specs::Faults::after))]
 fn judge_ids(keys: Keys<'_>, report: &mut Report)
     ensures { report.new ≡ after report.old (id_faults (keys_of keys.entry)) }
@@ -83,9 +84,9 @@ fn judge_ids(keys: Keys<'_>, report: &mut Report)
     }
 }
 
-/// Returns the fault that is reported for the keys of a file. The possible faults are unknown keys,
-/// more than 256 rules, and an id that two rules have. Ids are compared only if there are at most
-/// 256 rules.
+/// Returns the one of these faults that is reported: an unknown key outside all blocks, more than
+/// 256 rules, or an id that two rules have. Returns `None` if there is no such fault. Ids are
+/// compared only if there are at most 256 rules.
 #[tactic(auto, using(crate::proofs::Reports::after_append, crate::proofs::Reports::after_none))]
 fn judge_file(alloc: Global, keys: Keys<'_>) -> Result<Report, Memory>
     ensures { IfOk result (λ fault. fault ≡ after None

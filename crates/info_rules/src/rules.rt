@@ -32,7 +32,7 @@ impl Rules {
         self.rules.len()
     }
 
-    /// Returns the id of a rule.
+    /// Returns the id of the rule at the position `rule`.
     pub fn id(&self, rule: RuleNo) -> &str
         requires { rule.0 < length self.now }
         ensures { option_map (λ plain. plain.id) (slice_get self.now rule.0) ≡ Some result.now }

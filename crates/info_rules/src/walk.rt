@@ -18,7 +18,7 @@ use std::alloc::Global;
 /// The outcome of a check. `Err` means that memory ran out.
 type Judged = Result<(), Memory>;
 
-/// Returns whether the key is in the table.
+/// Returns whether the word of the key is that of a form in `forms`.
 fn is_known(forms: &[Form], key: Key<'_>) -> bool
     ensures { result
         ≡ list_any (λ form. is_word form.0.now (key_of key.entry)) forms.entry.now }
@@ -26,7 +26,7 @@ fn is_known(forms: &[Form], key: Key<'_>) -> bool
     forms.iter().any(|form| key.is(form.0))
 }
 
-/// Adds a fault to the report for each key that is not in the table.
+/// For each key whose word is not that of a form in `forms`, adds a fault to the report.
 #[tactic(auto, using(crate::proofs::Reports::after_first, crate::proofs::Reports::after_no), unfolding(crate::specs::Faults::after))]
 fn judge_unknown(forms: &[Form], keys: Keys<'_>, report: &mut Report)
     ensures { report.new ≡ after report.old
@@ -59,8 +59,7 @@ fn again_kind(alloc: Global, takes: Takes, key: Key<'_>) -> Result<RulesFaultKin
     }
 }
 
-/// Adds a fault to the report for each key that has the word of `form`, except for the first such
-/// key.
+/// For each key that has the word of `form`, except the first such key, adds a fault to the report.
 #[tactic(auto, using(crate::proofs::Reports::after_append, crate::proofs::Reports::after_none), unfolding(crate::specs::Faults::after))]
 fn judge_second(alloc: Global, form: &Form, keys: Keys<'_>, report: &mut Report) -> Judged
     ensures { OnOk result (report.new ≡ after report.old
@@ -97,7 +96,7 @@ fn judge_times(alloc: Global, form: &Form, keys: Keys<'_>, report: &mut Report) 
     Ok(())
 }
 
-/// Adds faults to the report for all keys that are given too many times.
+/// For each form in `forms` whose key is given too many times, adds faults to the report.
 #[tactic(auto, using(crate::proofs::Reports::after_first, crate::proofs::Reports::after_no))]
 fn judge_all_times(alloc: Global, forms: &[Form], keys: Keys<'_>, report: &mut Report) -> Judged
     ensures { OnOk result (report.new ≡ after report.old
@@ -112,7 +111,8 @@ fn judge_all_times(alloc: Global, forms: &[Form], keys: Keys<'_>, report: &mut R
 }
 
 /// Returns the fault that is reported for those keys of a block that are unknown or are given too
-/// many times. For each word, the value of the first key with this word is not checked here.
+/// many times, or `None` if there are no such keys. For each word, the value of the first key with
+/// this word is not checked here.
 #[tactic(auto, using(crate::proofs::Reports::after_append, crate::proofs::Reports::after_none), unfolding(crate::specs::Walk::walk_faults))]
 pub fn walk(alloc: Global, block: Block, keys: Keys<'_>) -> Result<Report, Memory>
     ensures { IfOk result

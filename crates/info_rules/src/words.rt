@@ -67,8 +67,8 @@ fn is_closing(is_escaped: bool, octet: u8) -> bool
     octet == b'"' && !is_escaped
 }
 
-/// Returns the number of octets before the closing quote, if the quoted text is closed on its line.
-/// `text` begins after the opening quote.
+/// Returns the number of octets before the closing quote, or `None` if the quoted text is not
+/// closed on its line. `text` begins after the opening quote.
 fn quoted_len(text: &[u8]) -> Option<usize>
     ensures { result ≡ quoted_len false text.now }
 {
@@ -105,7 +105,7 @@ fn past_first(text: &str) -> &str
     text.split_at(1).1
 }
 
-/// Returns the token of the word at the start of the text.
+/// Returns the first token of a text that begins, on `line`, with an unquoted word.
 #[tactic(auto, using(crate::proofs::Scanning::word_boundary, crate::proofs::Scanning::word_at_front, crate::proofs::Scanning::word_some))]
 fn first_word(line: u32, text: &str) -> NextToken<'_>
     requires some { 0 < length text.now }

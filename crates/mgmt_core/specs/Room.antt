@@ -14,7 +14,7 @@ HasRoomForReply room c =
     → (length (octets (reply_fields c face)) ≤ vec_capacity room.fields)
     × (length (reply_body c face) ≤ vec_capacity room.body)
 
--- the table that the command may enlarge is prepared for the command's name; always true for
+-- the table that the command `c` may enlarge is prepared for the name `c.name`; always true for
 -- commands that enlarge no table
 abbrev pub IsCallPrepared : Tables → PlainCommand → Type 0
 IsCallPrepared t c =
@@ -25,8 +25,8 @@ IsCallPrepared t c =
       | _ ↦ Unit {0}
     ]
 
--- there is memory for the reply to the command, and the table that the command may enlarge, if
--- there is one, is prepared for the command's name
+-- there is memory for the reply to the command `c`, and the table that the command may enlarge, if
+-- there is one, is prepared for the name `c.name`
 abbrev pub IsPrepared : Tables → PlainCommand → Type 0
 IsPrepared t c = HasRoomForReply t.room c × IsCallPrepared t c
 

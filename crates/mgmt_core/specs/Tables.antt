@@ -76,7 +76,7 @@ route_asked c now = record {
 abbrev pub is_full : {X : Type 0} → ByName X → List Field → Bool
 is_full table name = not (map.contains_key table name) && nat_le MAX_ENTRIES (map.len table)
 
--- whether the table has no room for the command: the command's name is new and the table already
+-- whether the table has no room for the command `c`: the name `c.name` is new and the table already
 -- has 4,096 names, or the command registers a new route and the table already has 16,384 routes
 abbrev pub is_full_for : PlainCommand → ℕ → Routes → Choices → Bool
 is_full_for c face routes choices =

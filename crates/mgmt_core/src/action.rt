@@ -18,7 +18,7 @@ pub enum Action {
     /// `rib/register`: registers a route, or replaces the route with the same name, face and
     /// origin.
     Register,
-    /// `rib/unregister`: removes the route with the command's name, face and origin.
+    /// `rib/unregister`: removes the route with a given name, face and origin.
     Unregister,
     /// `strategy-choice/set`: sets the strategy for a name.
     SetStrategy,

@@ -169,8 +169,8 @@ fn set_status(choices: &StrategyTable, command: &Command<'_>) -> u16
     OK
 }
 
-/// Gives the command's name a next hop on this face. If the name already has a next hop on this
-/// face, sets the cost of this next hop. Precondition: the command is not refused.
+/// Gives `command.name` a next hop on this face. If the name already has a next hop on this face,
+/// sets the cost of this next hop. Precondition: the command is not refused.
 fn add_nexthop(fib: &mut Fib, command: &Command<'_>, face: u64) -> Result<(), Memory>
     requires room { HasRoomFor fib.old.table face }
     requires taken { refusal fib.old.table (components command.now.name) ≡ None }
@@ -213,7 +213,7 @@ fn register(fib: &mut Fib, command: &Command<'_>, face: u64, now: u64) -> Result
     }
 }
 
-/// Sets the command's strategy for the command's name. Precondition: the command is not refused.
+/// Sets the command's strategy for `command.name`. Precondition: the command is not refused.
 fn set_strategy(choices: &mut StrategyTable, command: &Command<'_>) -> Result<(), Memory>
     requires { refusal choices.old.table (components command.now.name) ≡ None }
     ensures ok { OnOk result (choices.new.table ≡ with_choice choices.old.table

@@ -88,8 +88,8 @@ impl Command<'_> {
         }
     }
 
-    /// Appends the fields of the reply. If memory runs out, some octets of the fields may be
-    /// appended.
+    /// Appends the fields of a reply to this command, which came from `face`. If memory runs out,
+    /// some octets of the fields may be appended.
     fn put_fields(&self, out: &mut Vec<u8>, face: u64) -> Result<(), Memory>
         ensures ok { OnOk result
             (out.new.items ≡ out.old.items ++ octets (reply_fields (asked self.now) face)) }

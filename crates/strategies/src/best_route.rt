@@ -54,7 +54,8 @@ fn any_recent(used: &Used, now: u64) -> bool
     false
 }
 
-/// Returns the least hop, by cost and then by face, of the eligible hops that were never used.
+/// Returns the least hop, by cost and then by face, of the eligible hops that were never used, or
+/// `None` if there is no such hop.
 fn least_new(hops: &Hops, used: &Used, ask: Ask) -> Option<Hop>
     ensures { result ≡ least is_hop_before (filter (is_hop_new used.now) (eligible ask hops.now)) }
 {
@@ -69,9 +70,9 @@ fn least_new(hops: &Hops, used: &Used, ask: Ask) -> Option<Hop>
     first
 }
 
-/// Returns the eligible hop that was used longest ago. A hop that was never used counts as used at
-/// the moment 0. If several hops were used longest ago, at the same moment, returns the least of
-/// these hops, by cost and then by face.
+/// Returns the eligible hop that was used longest ago, or `None` if no hop is eligible. A hop that
+/// was never used counts as used at the moment 0. If several eligible hops were used longest ago,
+/// at the same moment, returns the least of these hops, by cost and then by face.
 fn stalest(hops: &Hops, used: &Used, ask: Ask) -> Option<Hop>
     ensures { result ≡ least (is_hop_staler used.now) (eligible ask hops.now) }
 {

@@ -39,6 +39,7 @@ pub fn any_eligible(hops: &Hops, ask: Ask) -> bool
 }
 
 /// Returns the hop at index `i`, counted from 0, if there is such a hop and the hop is eligible.
+/// Otherwise returns `None`.
 pub fn eligible_at(hops: &Hops, i: usize, ask: Ask) -> Option<Hop>
     ensures { eligible ask (drop i hops.now)
         ≡ option_to_list result ++ eligible ask (drop (i + 1) hops.now) }
