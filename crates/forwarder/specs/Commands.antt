@@ -154,8 +154,8 @@ id_of rules rule = unwrap_or (option_map (λ r. r.id) (slice_get rules rule)) []
 abbrev pub denial_text : Policy → ℕ → Reason → List ℕ
 denial_text p rule reason = reason_name reason ++ (codes " by " ++ id_of p.rules rule)
 
--- a Data with the name of the command and with this Content, sent back on the face that the command
--- came from
+-- the send of the reply to the face `face`, from which the command came, with this token, if there
+-- is one; the reply is a Data with the command's name and this Content
 abbrev pub replied : ℕ → Token → PlainInterest → List ℕ → Send
 replied face token i content = sent_back face token (reply_text i.name content)
 

@@ -54,7 +54,7 @@ ask_from p face i = record {
   now = p.now;
 }
 
--- the input of the strategy for an Interest that the node itself makes
+-- the input of the strategy for an Interest of this name that the node itself makes
 abbrev pub ask_for : Policy → List Field → Ask
 ask_for p name = record {
   asker = None;

@@ -20,7 +20,8 @@ pub record AreOctetsOf (octets : List ℕ) (sends : List Sent) : Type 0 where
   pub within : AreWithin octets sends
   pub no_more : length octets ≤ sum_by size_of sends
 
--- the face of the send, and the octets from its start up to, but not including, its end
+-- the face of the send, and the octets from the send's start up to, but not including, the send's
+-- end
 abbrev pub send_of : List ℕ → Sent → Send
 send_of octets sent = (sent.face, slice_range octets sent.start sent.end)
 

@@ -117,7 +117,7 @@ abbrev pub has_no_hops : Option ℕ → Bool
 has_no_hops None = false
 has_no_hops (Some limit) = limit == 0
 
--- the request of an Interest on a face; HopLimit 0 is checked first, then the scope
+-- the request of an Interest that came on a face; HopLimit 0 is checked first, then the scope
 abbrev pub request_of : Policy → ℕ → PlainInterest → Request
 request_of p face i =
     if has_no_hops i.hop_limit then Refused HopLimit else (

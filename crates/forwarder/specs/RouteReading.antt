@@ -52,8 +52,8 @@ route_after (FaceClosed closed) now name face origin was = if face == closed the
 
 -- The route that was set by the last register of this name, face and origin with status 200. The
 -- result is None if there was no such register, or if the route has ended since. A route ends by an
--- unregister with status 200, by the closing of its face, or because time at a later event is at or
--- after the route's deadline.
+-- unregister with status 200, by the closing of its face, or because the node's time at a later
+-- event is at or after the route's deadline.
 abbrev pub route_of : Run → List Field → ℕ → ℕ → Option Route
 route_of Start name face origin = None
 route_of (Then before event answer) name face origin =

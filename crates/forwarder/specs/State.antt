@@ -33,7 +33,7 @@ state_of s = record {
 }
 
 -- Each face with a record, a next hop or a route is open. At most 64 faces are open, and the list
--- of open faces is in rising order.
+-- of open faces is in rising order of the faces' numbers.
 pub record IsSound (s : NodeState) : Type 0 where
   pub few : length s.policy.faces ≤ MAX_FACES
   pub rising : IsRising (numbers s.policy.faces)

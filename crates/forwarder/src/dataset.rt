@@ -69,8 +69,8 @@ fn is_present(asked: Option<u64>, table_number: u64) -> bool
     }
 }
 
-/// Returns the octets of one segment of a list at the moment `now`, and the number of the last
-/// segment. Returns `None` if the list has no segment with the requested number.
+/// Returns the content of the requested segment of a list at the moment `now`, and the number of
+/// the list's last segment. Returns `None` if the list has no segment with the requested number.
 fn list_part(
     alloc: Global,
     tables: &Tables,
@@ -110,14 +110,14 @@ fn segment_name(
     Ok(name)
 }
 
-/// Appends a GenericNameComponent with the value `word`.
+/// Appends to `name` a GenericNameComponent with the value `word`.
 fn append_word(name: &mut NameBuf, word: &[u8]) -> Result<(), Memory>
     ensures { OnOk result (name.new ≡ name.old ++ generic word.now ∷ []) }
 {
     name.append(GENERIC, word).map_err(|_| Memory)
 }
 
-/// Appends a component that has the type `kind` and contains the number `number`.
+/// Appends to `name` a component that has the type `kind` and contains the number `number`.
 fn append_number(alloc: Global, name: &mut NameBuf, kind: u16, number: u64) -> Result<(), Memory>
     ensures { OnOk result (name.new ≡ name.old ++ (kind, shortest_nni number) ∷ []) }
 {

@@ -39,7 +39,7 @@ impl State {
         }
     }
 
-    /// Returns the input of the strategy for an Interest that the node itself makes.
+    /// Returns the input of the strategy for an Interest of this name that the node itself makes.
     pub fn ask_for(&self, name: Name<'_>) -> Ask
         ensures { result ≡ ask_for (policy_of self.entry.now) (components name.entry) }
     {

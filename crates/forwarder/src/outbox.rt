@@ -54,7 +54,8 @@ impl Outbox {
         self.sends.sent(i)
     }
 
-    /// Adds a send of these octets to the face `face`. If memory runs out, the sends do not change.
+    /// Appends one send: these octets go to the face `face`. If memory runs out, the sends do not
+    /// change.
     pub fn push(&mut self, face: u64, octets: &[u8]) -> Result<(), Memory>
         ensures ok { OnOk result (self.new ≡ self.old ++ (face, octets.now) ∷ []) }
         ensures err { OnErr result (self.new ≡ self.old) }

@@ -31,8 +31,8 @@ pub(crate) fn reply_room(name: Name<'_>, content_len: usize) -> Result<usize, Me
     Ok(room)
 }
 
-/// Appends the Content of a reply: the status, the text of the status, and `body`. Appends nothing
-/// if memory runs out.
+/// Appends to `out` the Content of a reply: the status, the text of the status (empty if the status
+/// has no text), and `body`. Appends nothing if memory runs out.
 pub(crate) fn put_status(out: &mut Vec<u8>, status: u16, body: &[u8]) -> Result<(), Memory>
     ensures ok { OnOk result (out.new.items ≡ out.old.items
         ++ response status (unwrap_or (text_of status) []) body.now) }
@@ -46,7 +46,7 @@ pub(crate) fn put_status(out: &mut Vec<u8>, status: u16, body: &[u8]) -> Result<
     put_response(out, status, text, body)
 }
 
-/// Appends the Content of the repository's reply. Appends nothing if memory runs out.
+/// Appends to `out` the Content of the repository's reply. Appends nothing if memory runs out.
 pub(crate) fn put_repo_status(out: &mut Vec<u8>, reply: &RepoReply) -> Result<(), Memory>
     ensures ok { OnOk result
         (out.new.items ≡ out.old.items ++ repository_content reply.now) }

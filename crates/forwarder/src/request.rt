@@ -72,7 +72,7 @@ impl ListKind {
     ghost use Rattle.ndn_names.specs.Name.{IsNameValue};
     ghost use Rattle.forwarder.specs.Request.{generic, list_name, management};
 
-    /// Returns the third component of the list's name.
+    /// Returns the value of the third component of the list's name.
     pub fn module(self) -> &'static [u8]
         ensures { list_name self
             ≡ management ++ generic result.now ∷ generic (codes "list") ∷ [] }

@@ -57,7 +57,7 @@ impl Model for Sends {
 }
 
 impl Sends {
-    /// Returns a value without sends.
+    /// Returns a `Sends` without sends.
     pub fn new(alloc: Global) -> Sends
         ensures { result.sends ≡ [] }
     {
@@ -132,8 +132,8 @@ impl Sends {
         Ok(())
     }
 
-    /// Adds a packet that is sent back to the face of an Interest. The packet gets the token of
-    /// that Interest, if there is one.
+    /// Appends one send: this packet goes back to the face `face`, from which an Interest came. The
+    /// packet gets the token of that Interest, if there is one.
     pub fn push_back(
         &mut self,
         face: u64,
@@ -154,8 +154,8 @@ impl Sends {
         self.push_lp(face, token, None, packet)
     }
 
-    /// Adds a Nack with this reason. The Nack contains the octets of an Interest, and has the
-    /// Interest's token, if there is one.
+    /// Appends one send: a Nack with this reason goes to the face `face`. The Nack contains the
+    /// octets of an Interest, and has the Interest's token, if there is one.
     pub fn push_nack(
         &mut self,
         face: u64,
@@ -177,10 +177,10 @@ impl Sends {
         self.push_lp(face, token, Some(reason), interest)
     }
 
-    /// Adds a packet. If there is a token or a Nack reason, the packet is sent in a link packet
-    /// (NDNLPv2, "Packet Format"). The link packet has the token, if there is one, and a Nack with
-    /// the reason, if there is one. If there is neither a token nor a reason, the packet is sent
-    /// without a link packet.
+    /// Appends one send: this packet goes to the face `face`. If there is a token or a Nack reason,
+    /// the packet is sent in a link packet (NDNLPv2, "Packet Format"). The link packet has the
+    /// token, if there is one, and a Nack with the reason, if there is one. If there is neither a
+    /// token nor a reason, the packet is sent without a link packet.
     fn push_lp(
         &mut self,
         face: u64,
@@ -204,8 +204,9 @@ impl Sends {
         Ok(())
     }
 
-    /// Adds a reply: a Data with this name and Content, without MetaInfo, signed with DigestSha256.
-    /// The reply gets the token of the Interest that it answers, if there is one.
+    /// Appends one send: a reply goes to the face `face`. The reply is a Data with this name and
+    /// Content, without MetaInfo, signed with DigestSha256. The reply gets the token of the
+    /// Interest that it answers, if there is one.
     pub fn push_reply(
         &mut self,
         face: u64,
@@ -233,7 +234,7 @@ impl Sends {
         Ok(())
     }
 
-    /// Adds one send for each face in `faces`: these octets, sent to the face. The octets are
+    /// Appends one send for each face in `faces`: these octets go to the face. The octets are
     /// stored once, or not at all if there is no face.
     pub fn push_to_each(&mut self, faces: &Faces, octets: &[u8]) -> Result<(), Memory>
         ensures ok { OnOk result
@@ -254,9 +255,9 @@ impl Sends {
         Ok(())
     }
 
-    /// Adds one send for each face: the Interest, sent to the face. The HopLimit, if there is one,
-    /// is decremented, and nothing else in the Interest changes. The octets are stored once, or not
-    /// at all if there is no face.
+    /// Appends one send for each face in `faces`: the Interest goes to the face. The HopLimit, if
+    /// there is one, is decremented, and nothing else in the Interest changes. The octets are
+    /// stored once, or not at all if there is no face.
     pub fn push_interest(&mut self, faces: &Faces, interest: &Interest<'_>) -> Result<(), Memory>
         requires hops { interest.now.hop_limit ≢ Some 0 }
         ensures ok { OnOk result (self.new.sends ≡ self.old.sends
@@ -277,9 +278,9 @@ impl Sends {
         Ok(())
     }
 
-    /// Adds one send for each face: an Interest that the node itself makes, sent to the face. Adds
-    /// nothing if the Interest cannot be encoded. The octets are stored once, or not at all if
-    /// there is no face.
+    /// Appends one send for each face in `faces`: the Interest, which the node itself makes, goes
+    /// to the face. Appends nothing if the Interest cannot be encoded. The octets are stored once,
+    /// or not at all if there is no face.
     pub fn push_fetch(&mut self, faces: &Faces, interest: &InterestWriter<'_>) -> Result<(), Memory>
         ensures ok { OnOk result
             (self.new.sends ≡ self.old.sends ++ fetched faces.now interest.now) }
@@ -304,8 +305,8 @@ impl Sends {
     }
 }
 
-/// Adds one send to `face`: the octets from index `start` up to, but not including, index `end`.
-/// Memory for the send is already reserved.
+/// Appends one send: the octets from index `start` up to, but not including, index `end` go to the
+/// face `face`. Memory for the send is already reserved.
 fn place(places: &mut Vec<Sent>, face: u64, start: usize, end: usize) -> Result<(), Memory>
     requires { vec_len places.old < vec_capacity places.old }
     ensures ok { IsOk result }
@@ -317,8 +318,8 @@ fn place(places: &mut Vec<Sent>, face: u64, start: usize, end: usize) -> Result<
     Ok(())
 }
 
-/// Adds one send for each face: the octets from index `start` up to, but not including, index
-/// `end`, sent to the face. Memory for these sends is already reserved.
+/// Appends one send for each face in `faces`: the octets from index `start` up to, but not
+/// including, index `end` go to the face. Memory for these sends is already reserved.
 fn place_each(places: &mut Vec<Sent>, faces: &Faces, start: usize, end: usize) -> Result<(), Memory>
     requires { vec_len places.old + length faces.now ≤ vec_capacity places.old }
     ensures ok { IsOk result }
@@ -334,8 +335,8 @@ fn place_each(places: &mut Vec<Sent>, faces: &Faces, start: usize, end: usize) -
     Ok(())
 }
 
-/// Appends a reply. The reply gets the token of the Interest that it answers, if there is one.
-/// Appends nothing if memory runs out.
+/// Appends to `out` a reply with this name and Content. The reply gets the token of the Interest
+/// that it answers, if there is one. Appends nothing if memory runs out.
 fn put_reply_back(
     out: &mut Vec<u8>,
     token: Option<&[u8]>,
@@ -374,7 +375,8 @@ fn written(done: Result<(), WriteFault>) -> Result<bool, Memory>
     }
 }
 
-/// Appends an Interest. The HopLimit of the appended Interest, if there is one, is decremented.
+/// Appends an Interest to `out`. The HopLimit of the appended Interest, if there is one, is
+/// decremented.
 /// Appends nothing if memory runs out.
 fn put_sent_on(out: &mut Vec<u8>, interest: &Interest<'_>) -> Result<(), Memory>
     requires hops { interest.now.hop_limit ≢ Some 0 }

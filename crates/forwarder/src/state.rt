@@ -35,8 +35,8 @@ pub struct State {
 impl State {
     /// Sets the time to the greater of `self.now` and `moment`, and removes the in-records, routes
     /// and pending inserts that expire by this time. Adds the number of removed routes to the
-    /// version of the lists, up to the greatest u64. What was prepared in the PIT, the tables, the
-    /// guard and the repository stays prepared.
+    /// version of the lists of routes and strategies, up to the greatest u64. What was prepared in
+    /// the PIT, the tables, the guard and the repository stays prepared.
     pub fn pass_time(&mut self, moment: u64)
         ensures later { IsLater (state_of self.old) moment (state_of self.new) }
         ensures pit { self.new.pit.prepared ≡ self.old.pit.prepared }
@@ -53,7 +53,7 @@ impl State {
         self.repo.expire(self.now);
     }
 
-    /// Increases the version of the lists by 1, up to the greatest u64.
+    /// Increases the version of the lists of routes and strategies by 1, up to the greatest u64.
     pub fn next_version(&mut self)
         ensures { self.new
             ≡ record self.old { table_number = min (self.old.table_number + 1) (2 ^ 64 - 1) } }
