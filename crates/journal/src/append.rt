@@ -29,10 +29,10 @@ pub enum AppendFault {
     File,
 }
 
-/// If the event in `coming` must be journalled, appends the event's line, and succeeds only when
-/// the line survives a crash. `verdict` is the verdict on the event. The time in the line is
-/// `time`: the greatest of the times of this event and all events answered before, in milliseconds
-/// since 1970.
+/// If the event in `coming` must be journalled, appends the event's line to `file`, and succeeds
+/// only when the line survives a crash. `verdict` is the verdict on the event. The time in the line
+/// is `time`: the greatest of the times of this event and all events answered before, in
+/// milliseconds since 1970.
 pub fn append_event<F: JournalFile>(
     alloc: Global,
     file: &mut F,

@@ -51,8 +51,8 @@ pub fn are_last_rules<R: BufRead>(
     }
 }
 
-/// Returns the text after the time in a line of new rules, if `rules` are the octets of the rule
-/// file and `keys` are the octets of the key file.
+/// Returns the text that follows the time in the line of new rules for a rule file with the octets
+/// `rules` and a key file with the octets `keys`.
 fn text_of_files(alloc: Global, rules: &[u8], keys: &[u8]) -> Result<String, AllocError>
     ensures { IfOk result (λ text. string_bytes text ≡ files_text rules.now keys.now) }
 {

@@ -63,10 +63,10 @@ impl Survey {
         Ok(())
     }
 
-    /// Notes that stored objects answered an insert. The line of the insert needs the line of the
-    /// first object that answers the insert, because the insert would wait for a Data if no object
-    /// answered. If the survey knows no object that answers the insert, the line of the insert
-    /// needs all lines before it.
+    /// Notes that stored objects answered an insert. The line of the insert needs the line that
+    /// stored one of these objects (the first in the order of their keys), because the insert would
+    /// wait for a Data if no object answered. If the survey knows no object that answers the
+    /// insert, the line of the insert needs all lines before it.
     fn note_answered(&mut self, line: u32, asked: &Asked<'_>) -> Result<(), Memory> {
         let start = key_of(self.alloc, Kind::Object, &[], asked.name.as_octets())?;
         match self.first_object(start, asked) {
@@ -75,9 +75,9 @@ impl Survey {
         }
     }
 
-    /// Looks only at the objects whose keys are `start` or greater. Returns the line that stored
-    /// the first of these objects that answers the command, or `None` if none of these objects
-    /// answers the command.
+    /// Looks only at the objects whose keys are `start` or greater, in the order of their keys.
+    /// Returns the line that stored the first of these objects that answers the command, or `None`
+    /// if none of these objects answers the command.
     fn first_object(&self, start: Vec<u8>, asked: &Asked<'_>) -> Option<u32> {
         for (key, writer) in self.writers.range(start..) {
             let name = full_name_in(key)?;

@@ -57,8 +57,8 @@ pub fn put_strangers(
     put_counted(alloc, text, moment, count, "datagram", " of strangers")
 }
 
-/// Appends a line with a count, its noun and the text `word`. If memory runs out, nothing is
-/// appended.
+/// Appends a line with the count `count`, the noun `noun` (with an `s` unless the count is 1) and
+/// the text `word`. If memory runs out, nothing is appended.
 fn put_counted(
     alloc: Global,
     text: &mut Vec<u8>,

@@ -35,7 +35,8 @@ pub fn put_face(text: &mut Vec<u8>, face: u64, endpoint: Option<SocketAddr>) -> 
     }
 }
 
-/// Appends a count with its noun. If memory runs out, some of the text may be appended.
+/// Appends a count and its noun, with an `s` after the noun unless the count is 1. If memory runs
+/// out, some of the text may be appended.
 pub fn put_count(text: &mut Vec<u8>, count: u64, noun: &str) -> Result<(), Memory>
     ensures { OnOk result (text.new.items ≡ text.old.items ++ counted count noun.now) }
 {

@@ -68,8 +68,8 @@ pub fn put_verdict(
     done
 }
 
-/// Appends the line of an event for which memory ran out, as `run_script` writes it. If memory runs
-/// out for the line too, nothing is appended.
+/// Appends the line of an event for which memory ran out, as `run_script` writes it: the number of
+/// the event and the word `memory`. If memory runs out for the line too, nothing is appended.
 pub fn put_refused(text: &mut Vec<u8>, number: u64) -> Result<(), Memory>
     ensures ok { OnOk result
         (text.new.items ≡ text.old.items ++ numbered_line number (codes "memory")) }

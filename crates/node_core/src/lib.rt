@@ -1,4 +1,4 @@
-//! Scripts: the events of a forwarder and its answers, as text.
+//! Scripts, which are the events of a forwarder as text, and the text of the forwarder's answers.
 #![tactic(auto)]
 
 mod answer;

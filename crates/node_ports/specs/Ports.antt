@@ -41,7 +41,8 @@ Gives (Some []) new size event = (event ≡ None) × (new ≡ Some [])
 Gives (Some (first ∷ rest)) new size event =
     (event ≡ Some (cut_to size first)) × (new ≡ Some rest)
 
--- these packets were added to the accepted packets, if the accepted packets are known
+-- these packets were appended, in order, to the list of accepted packets; if the list is not known,
+-- nothing is stated about the packets
 abbrev pub Takes : Option (List Send) → Option (List Send) → List Send → Type 0
 Takes None new sends = new ≡ None
 Takes (Some old) new sends = new ≡ Some (old ++ sends)

@@ -11,6 +11,7 @@ pub record RenewalValue : Type 0 where
   pub rule_octets : List ℕ
   pub key_octets : List ℕ
 
--- the rules are those of the rule file, and the keys are those of the key file
+-- the rules are those of the rule file with the octets `rule_octets`, and the keys are those of the
+-- key file with the octets `key_octets`
 abbrev pub AreOfFiles : List PlainRule → List NamedKey → List ℕ → List ℕ → Type 0
 AreOfFiles rules keys rule_octets key_octets = AreRules rule_octets rules × AreKeys key_octets keys

@@ -59,7 +59,7 @@ abbrev pub count_after : ℕ → ℕ → ℕ
 count_after count zero = count
 count_after count (suc n) = one_more (count_after count n)
 
--- the packets that an outcome sends
+-- the sends of the answer, or no sends if memory ran out
 abbrev pub sends_of : Outcome → List Send
 sends_of (Answered answer) = answer.sends
 sends_of NoMemory = []

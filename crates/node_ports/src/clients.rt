@@ -212,9 +212,9 @@ impl Clients {
         place
     }
 
-    /// Returns the index of the client that has been silent longest, if its face may close to make
-    /// room for an endpoint without a face. Returns `None` if no client's face may close to make
-    /// room.
+    /// Returns the index of the client that has been silent longest, if its face may close at the
+    /// time `now` to make room for an endpoint without a face. Returns `None` if no client's face
+    /// may close to make room.
     pub fn yielding_place(&self, now: u64) -> Option<usize>
         ensures none { result ≡ None
             → All (λ client. GivesWay self.now.idle now client → ⊥) self.now.rows }
@@ -227,7 +227,8 @@ impl Clients {
     }
 
     /// Returns the index of the client that has been silent longest, if that client has been silent
-    /// for at least `time` milliseconds. Returns `None` if no client has been silent for this time.
+    /// for at least `time` milliseconds at the time `now`. Returns `None` if no client has been
+    /// silent for this long.
     fn silent_for(&self, time: u64, now: u64) -> Option<usize>
         ensures none { result ≡ None
             → All (λ client. IsSilent time now client → ⊥) self.now.rows }

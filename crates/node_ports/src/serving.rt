@@ -196,7 +196,7 @@ pub fn serve_turn_soon<P: Ports>(
     Some(handle(node, ports, arrival, buffer, outbox))
 }
 
-// Lets a node handle an arrival, and passes the result to the port's `note`.
+// Lets a node handle an arrival, and passes the result of the turn to the port's `note`.
 fn handle<P: Ports>(
     node: &mut Node,
     ports: &mut P,
@@ -218,7 +218,7 @@ fn handle<P: Ports>(
     turn
 }
 
-// Lets a node answer an arrival.
+// Lets a node handle an arrival, and returns the result of the turn. Does not call `note`.
 fn answer<P: Ports>(
     node: &mut Node,
     ports: &mut P,

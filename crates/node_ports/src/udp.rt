@@ -255,7 +255,8 @@ impl<M: Moments> UdpPorts<M> {
         Arrival::Packet { face, now, len }
     }
 
-    /// Handles the datagram that waited while a face closed.
+    /// Handles the datagram that waited while a face closed. Returns the next arrival: the datagram
+    /// on its face, or the opening or closing of a face.
     fn go_on(&mut self, endpoint: SocketAddr, buffer: &mut [u8]) -> Arrival
         requires opened { HasOpened self.old }
         requires waiting { (octets : List ℕ) × (self.old.waiting
@@ -290,7 +291,7 @@ impl<M: Moments> UdpPorts<M> {
         self.waiting = Some(Waiting { endpoint, face });
     }
 
-    /// Opens the face of the first peer whose face is not yet opened.
+    /// Returns the arrival that opens the face of the first peer whose face is not yet opened.
     fn open(&mut self) -> Arrival
         requires { self.old.opened < length self.old.known.peers }
         ensures { OpensPeer self.old self.new result }

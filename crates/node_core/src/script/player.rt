@@ -121,7 +121,8 @@ impl Player {
         done
     }
 
-    // Handles the last line, which has no LF, and writes the answer to this line.
+    // Handles the last line, which has no LF. If the line has an event, writes the answer to the
+    // event.
     fn end<W: Write>(&mut self, writer: &mut W, line: &[u8]) -> Result<(), RunFault>
         requires room { HasRoom (place_of self.old) 1 }
         requires whole { Lacks 10 line.now }
@@ -137,8 +138,8 @@ impl Player {
         put_all(writer, self.text.as_slice())
     }
 
-    // Handles the lines whose LF is in `chunk`, and appends the answers to these lines to
-    // `self.text`. The first of these lines begins with the octets that `line` has before the call.
+    // Handles the lines whose LF is in `chunk`, and appends to `self.text` the answers to these
+    // lines. The first of these lines begins with the octets that `line` has before the call.
     // Leaves the octets of the unfinished line in `line`.
     fn gather(&mut self, line: &mut Vec<u8>, chunk: &[u8]) -> Result<(), RunFault>
         requires room { HasRoom (place_of self.old) (length chunk.now + 1) }
@@ -179,7 +180,7 @@ impl Player {
     }
 
     // Handles the line that consists of `line` followed by `octets`. If this line has an event,
-    // appends the answer to `self.text`. Then leaves `line` empty.
+    // appends to `self.text` the answer to the event. Then leaves `line` empty.
     fn end_line(&mut self, line: &mut Vec<u8>, octets: &[u8]) -> Result<(), RunFault>
         requires room { HasRoom (place_of self.old) 1 }
         requires pending { IsPending line.old.items }
@@ -203,7 +204,7 @@ impl Player {
         Ok(())
     }
 
-    // Handles a line. If the line has an event, appends the answer to `self.text`.
+    // Handles a line. If the line has an event, appends to `self.text` the answer to the event.
     fn answer_line(&mut self, line: &[u8]) -> Result<(), RunFault>
         requires room { HasRoom (place_of self.old) 1 }
         requires whole { Lacks 10 line.now }
@@ -227,7 +228,7 @@ impl Player {
         Ok(())
     }
 
-    // Passes the event to the node, and appends the node's answer to `self.text`.
+    // Passes the event to the node, and appends to `self.text` the node's answer.
     fn answer(&mut self, event: OwnedEvent) -> Result<(), RunFault>
         requires room { HasRoom (place_of self.old) 1 }
         ensures handled { OnOk result ((text : List ℕ)
