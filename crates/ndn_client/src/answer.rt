@@ -37,8 +37,8 @@ pub fn text_of(alloc: Global, job: &Job, book: &KeyBook) -> Result<Vec<u8>, Tool
     }
 }
 
-/// Returns the line with an Interest. If there is a PIT token, the Interest is inside a link packet
-/// (NDNLPv2, "PIT Token").
+/// Returns the line with an Interest in hexadecimal. If there is a PIT token, the Interest is
+/// inside a link packet (NDNLPv2, "PIT Token").
 fn link_text(alloc: Global, job: &LinkJob, book: &KeyBook) -> Result<Vec<u8>, ToolFault>
     ensures { MatchResult result
         (λ text. IsLinkAnswer job.now book.now text.items)
@@ -193,7 +193,7 @@ fn explain_text(alloc: Global, job: &ExplainJob, book: &KeyBook) -> Result<Vec<u
     }
 }
 
-/// Returns the keys for checking signatures, if the job names a key file.
+/// Returns the keys for checking signatures, or `None` if the job names no key file.
 pub fn keys_given<'a>(job: &ExplainJob, book: &'a KeyBook) -> Option<&'a KeyBook>
     ensures { option_map (λ b. b.now) result ≡ keys_given job.now book.entry.now }
 {
@@ -268,7 +268,8 @@ fn data_sign<'a>(key: &'a Option<NameBuf>, book: &'a KeyBook) -> Result<Sign<'a>
     }
 }
 
-/// Returns how a packet is signed by an HMAC with the key of this name.
+/// Returns how a packet is signed by an HMAC with the key of this name, or the fault `NoKey` if the
+/// book has no such key.
 fn hmac_of<'a>(name: &'a NameBuf, book: &'a KeyBook) -> Result<Sign<'a>, ToolFault>
     ensures { MatchResult result (IsHmac name.now book.now) (IsNoKey (Some name.now) book.now) }
 {

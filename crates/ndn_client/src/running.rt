@@ -1,5 +1,5 @@
-//! A run of the client: the arguments, the clock, files, standard input and sockets of the
-//! operating system.
+//! A run of the client, which uses the arguments, the clock, the files, standard input and the
+//! sockets of the operating system.
 ghost use Rattle.std.specs.Prelude.{◌≤◌, length, IfOk};
 
 use crate::fault::Fault;
@@ -26,7 +26,7 @@ const ANSWER_SECONDS: u64 = 4;
 /// Why no datagram was received.
 #[derive(Clone, Copy)]
 enum Missed {
-    /// No program uses the port.
+    /// No program uses the destination port.
     Closed,
     /// No datagram arrived in time, or receiving failed for another reason.
     Late,

@@ -18,7 +18,7 @@ IsLocalhost endpoint =
     MatchIp (socket_ip endpoint) (λ ip. ipv4_octets ip ≡ 127 ∷ 0 ∷ 0 ∷ 1 ∷ []) (λ ip. ⊥)
 
 -- The text spells an endpoint: an address with a port, or a port alone. A port alone stands for
--- this port of the address 127.0.0.1. Port 0 is not allowed.
+-- the address 127.0.0.1 with this port. Port 0 is not allowed.
 abbrev pub IsEndpoint : List ℕ → SocketAddr → Type 0
 IsEndpoint text endpoint =
     (IsPort text (socket_port endpoint) × IsLocalhost endpoint)

@@ -103,8 +103,8 @@ abbrev pub fault_of : ServeFault → Fault
 fault_of (serve.Next events) = Unreceived
 fault_of (serve.Journal events) = Journal journal.Unwritten
 
--- after zero or more events, the call for the next arrival failed, or an event could not be
--- journalled
+-- the node stopped with the fault `why` after zero or more events: the call for the next arrival
+-- failed, or the event that arrived could not be journalled
 abbrev pub StopsQuietTurns : NodeState → NodeState → Shown → Shown → ℕ → Fault → Type 0
 StopsQuietTurns old new before after turns why =
     (stop : ServeFault) × StopsServing old new before after turns stop × (why ≡ fault_of stop)
@@ -119,7 +119,7 @@ EndsTurns (Journal journal.Unwritten) = ⊤
 EndsTurns why = ⊥
 
 -- why a node with valid parts takes no turns on this endpoint: the endpoint cannot be bound, or
--- memory ran out
+-- memory ran out when the node was created
 abbrev pub HasNoTurns : SocketAddr → Fault → Type 0
 HasNoTurns endpoint (Unbound other) = other ≡ endpoint
 HasNoTurns endpoint (Script (Node why)) = why ≡ NodeMemory

@@ -178,7 +178,7 @@ fn put_in_place<R: Files<File = File>>(
     File::open(rt, folder_of(path))?.sync_all()
 }
 
-/// Returns the directory of a file.
+/// Returns the path of the directory that contains the file at `path`.
 fn folder_of(path: &str) -> &str {
     match path.rsplit_once('/') {
         Some(("", _)) => "/",

@@ -21,7 +21,7 @@ const MOST_GATHERED: usize = 65_536;
 const WAIT_MILLISECONDS: u64 = 1_000;
 
 /// The least time between two reports of counts, in milliseconds. Only the report at the end of the
-/// log may be earlier.
+/// log may come sooner after the report before it.
 const COUNT_MILLISECONDS: u64 = 60_000;
 
 /// A destination for the lines of a log.
@@ -159,7 +159,8 @@ impl<S: LogSink> EventLog<S> {
         let _put = put_failed_send(self.alloc, &mut self.later, moment, face, endpoint, octets);
     }
 
-    /// Appends the stored lines of failed sends, or drops them if memory runs out.
+    /// Appends the stored lines of failed sends to the buffered lines, or drops the stored lines if
+    /// memory runs out.
     pub fn put_later(&mut self)
         ensures text { (self.new.text.items ≡ self.old.text.items ++ self.old.later.items)
             ⊎ (self.new.text.items ≡ self.old.text.items) }

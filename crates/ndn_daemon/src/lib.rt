@@ -1,5 +1,5 @@
-//! The work of the program `ndn_node`, except scripts: the command line, the files, a node on a
-//! port, and the shortening of journals.
+//! The command line of the program `ndn_node`, its files, a node on a port, and the shortening of
+//! journals. The program also runs scripts, which this crate does not do.
 #![tactic(auto)]
 
 mod advice;

@@ -15,7 +15,7 @@ use std::net::SocketAddr;
 
 /// Ports that know the endpoints of their faces.
 pub trait HasEndpoints {
-    /// Returns the endpoint of a face, if the face has one.
+    /// Returns the endpoint of a face, or `None` if the face has no endpoint.
     fn endpoint_of(&self, face: u64) -> Option<SocketAddr>;
 
     /// Returns the number of datagrams that were dropped because their endpoints are not peers.
@@ -108,7 +108,7 @@ impl<P: Ports + HasEndpoints + Drop, S: LogSink> LoggedPorts<P, S> {
         }
     }
 
-    /// Returns the endpoint of a face, if the endpoint is known.
+    /// Returns the endpoint of a face, or `None` if the endpoint is not known.
     fn endpoint_of(&self, face: u64) -> Option<SocketAddr> {
         match self.ports.endpoint_of(face) {
             Some(endpoint) => Some(endpoint),

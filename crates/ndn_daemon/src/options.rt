@@ -59,7 +59,7 @@ impl ShorteningOptions {
     }
 }
 
-/// Returns the value of an option, if the option is present.
+/// Returns the value of an option, or `None` if the option is absent.
 pub fn value<'a>(found: &ArgMatches<'a>, id: &str) -> Option<&'a str>
     ensures { option_map (λ value. value.now) result ≡ value_at (rows_in found.now) id.now }
 {

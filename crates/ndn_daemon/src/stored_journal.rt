@@ -11,7 +11,7 @@ use std::alloc::Global;
 /// A journal from which a node is restored.
 pub trait StoredJournal: JournalFile + Drop {
     /// Returns whether the last whole `rules` line in the journal has exactly the octets of the
-    /// rule file and of the key file in `renewal`.
+    /// rule file and of the key file in `renewal`. Returns `false` if the journal has no such line.
     fn has_last(&mut self, alloc: Global, renewal: &Renewal) -> Result<bool, Fault>
         ensures told { IfOk result (TellsLastRules (Self.synced self.old) renewal.now) }
         ensures same { Self.synced self.new ≡ Self.synced self.old };

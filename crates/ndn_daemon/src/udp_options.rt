@@ -254,7 +254,7 @@ fn log_of(level: Option<&str>) -> Result<LogLevel, Fault>
     }
 }
 
-/// Reads an address and a port. A port alone stands for this port of the address 127.0.0.1.
+/// Reads an address and a port. A port alone stands for the address 127.0.0.1 with this port.
 fn endpoint_of(place: &'static str, text: &str) -> Result<SocketAddr, Fault>
     ensures { Reads (IsEndpoint text.now) result }
 {
@@ -270,7 +270,8 @@ fn endpoint_of(place: &'static str, text: &str) -> Result<SocketAddr, Fault>
     Ok(endpoint)
 }
 
-/// Reads a port from 1 to 65535 in decimal digits. Leading zeros are allowed.
+/// Reads a port from 1 to 65535 in decimal digits. Leading zeros are allowed. Returns `None` for
+/// any other text.
 fn port_of(digits: &str) -> Option<u16>
     ensures { MatchOption result ((n : ℕ) → IsPort digits.now n → ⊥) (IsPort digits.now) }
 {

@@ -68,7 +68,7 @@ form_text Strategy value = strategy_text value
 form_text Flags value = flags_text value
 form_text Period value = period_text value
 
--- the line of a field whose value has this form, if the field is present
+-- the line of a field whose value has this form, or no line if the field is absent
 abbrev pub field_line : List ℕ → Form → ℕ → Elements → List ℕ
 field_line label form kind es = optional_line label (option_map (form_text form) (first_of kind es))
 

@@ -17,11 +17,11 @@ hex_line octets = encode_lower octets ++ codes "\n"
 abbrev pub named_line : List ℕ → List ℕ → List ℕ
 named_line label value = label ++ (codes " " ++ line value)
 
--- the line with a label alone, if the flag is set
+-- the line with a label alone if the flag is set, otherwise no line
 abbrev pub flag_line : List ℕ → Bool → List ℕ
 flag_line label holds = if holds then line label else []
 
--- the line with a label and a value, if there is a value
+-- the line with a label and a value, or no line if there is no value
 abbrev pub optional_line : List ℕ → Option (List ℕ) → List ℕ
 optional_line label None = []
 optional_line label (Some value) = named_line label value

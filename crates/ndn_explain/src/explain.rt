@@ -22,7 +22,8 @@ use ndn_tlv::Memory;
 use std::alloc::Global;
 use std::io::Write;
 
-/// Checks the signature of a packet, if the packet is signed and keys are given.
+/// Checks the signature of a packet, if the packet is signed and keys are given. Otherwise returns
+/// `None`.
 pub fn check_of(frame: &Frame<'_>, keys: Option<&KeyBook>) -> Option<TagCheck>
     ensures { MayBeChecked (plain_frame frame.now) (option_map (λ b. b.now) keys.entry) result }
 {
@@ -169,7 +170,7 @@ fn put_text(text: &mut Vec<u8>, content: &[u8]) -> Result<(), Memory>
     put_value(text, "text", content)
 }
 
-/// Appends the lines of the SignatureInfo of a signed packet.
+/// Appends the lines of the SignatureInfo of a signed packet, or nothing if `signature` is `None`.
 fn put_signer(
     alloc: Global,
     text: &mut Vec<u8>,

@@ -97,7 +97,9 @@ fn put_octets(
     put_packet(alloc, text, octets, keys)
 }
 
-/// Returns the text before a packet in a line, and the packet's digits.
+/// Returns the text before the packet in a line, and the packet's digits, if the line has a packet.
+/// For a line that begins with `>` and has a space, the two results are the texts before and after
+/// the last space. For any other line, they are an empty text and the whole line.
 fn parts_of(line: &str) -> (&str, &str)
     ensures { (result.0.now, result.1.now) ≡ parts_of line.now }
 {

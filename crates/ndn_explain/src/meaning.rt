@@ -234,7 +234,8 @@ fn put_field(
     Ok(())
 }
 
-/// Reads `value` in the form `form`, and appends the text of the value.
+/// Reads `value` in the form `form`, and appends the text of the value. If `value` does not have
+/// this form, appends the text for a malformed value.
 pub fn put_form(alloc: Global, text: &mut Vec<u8>, form: Form, value: &[u8]) -> Result<(), Memory>
     ensures { OnOk result (text.new.items ≡ text.old.items ++ form_text form value.now) }
 {
@@ -305,7 +306,7 @@ fn put_name_text(alloc: Global, text: &mut Vec<u8>, value: &[u8]) -> Result<(), 
     }
 }
 
-/// Appends the text for a malformed value.
+/// Appends the text for a malformed value: the word `bad`, and the value in hexadecimal.
 fn put_bad(alloc: Global, text: &mut Vec<u8>, value: &[u8]) -> Result<(), Memory>
     ensures { OnOk result (text.new.items ≡ text.old.items ++ bad_text value.now) }
 {

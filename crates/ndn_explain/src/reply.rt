@@ -64,7 +64,8 @@ pub fn put_written(
     put_content(alloc, text, content)
 }
 
-/// Returns the value of the first field of type `kind`, if the octets are a Data with such a field.
+/// Returns the value of the first field of type `kind` in a Data, or `None` if the octets are not a
+/// Data with such a field.
 fn data_field(octets: &[u8], kind: u32) -> Option<&[u8]>
     ensures { option_map (λ v. v.now) result ≡ data_field kind octets.now }
 {

@@ -70,7 +70,8 @@ fn check_value(signature: Signature<'_>, parts: Parts<'_>, book: &KeyBook) -> Ta
     }
 }
 
-/// Checks an HMAC with the key that the KeyLocator names.
+/// Checks an HMAC with the key that the KeyLocator names. Returns `UnknownKey` if the book has no
+/// such key, or if the KeyLocator is not a name.
 fn check_hmac(signature: Signature<'_>, parts: Parts<'_>, book: &KeyBook) -> TagCheck
     ensures { IsLocatorCheck (plain_locator signature.entry.locator) book.now
         signature.entry.value.now (parts_of parts.entry) result }
@@ -97,7 +98,7 @@ fn digest_of(parts: Parts<'_>) -> [u8; 32]
     hasher.finalize()
 }
 
-/// Compares a signature's value with the right value.
+/// Returns `Right` if a signature's value is equal to `right`, and `Wrong` otherwise.
 fn compared(value: &[u8], right: &[u8; 32]) -> TagCheck
     ensures { IsValueCheck value.now right.now result }
 {

@@ -54,7 +54,8 @@ fn answer_to(error: Error) -> Result<Job, ToolFault>
     }
 }
 
-/// Returns the job of the subcommand in `matches`.
+/// Returns the job of the subcommand in `matches`, or the fault `BadValue` if there is no
+/// subcommand.
 fn job_of(alloc: Global, matches: &ArgMatches<'_>, now: u64, words: &[u8]) -> Result<Job, ToolFault>
     ensures { ReadsInMemory (IsJob now words.now (subcommand_rows_of matches.now)) result }
 {
@@ -72,7 +73,8 @@ fn used<'a, 'm>(matches: &'m ArgMatches<'a>) -> Option<(&'a str, &'m ArgMatches<
     matches.subcommand()
 }
 
-/// Returns the job that the options of the subcommand with this name describe.
+/// Returns the job that the options of the subcommand with this name describe, or the fault
+/// `BadValue` if there is no such subcommand.
 fn named_job(
     alloc: Global,
     name: &str,

@@ -533,7 +533,7 @@ fn list_of(subcommand: &str) -> NodeList
     }
 }
 
-/// Returns whether the verb is `list`.
+/// Returns whether the verb in the options is `list`.
 pub fn is_list(options: &ArgMatches<'_>) -> bool
     ensures { result ≡ is_list (rows_in options.now) }
 {

@@ -27,7 +27,8 @@ pub fn repository_name(alloc: Global, options: &ArgMatches<'_>) -> Result<NameBu
     }
 }
 
-/// Returns the verb that the options spell.
+/// Returns the verb that the options spell: `insert`, `delete` or `check`. Any other verb is
+/// refused.
 fn verb_in<'a>(options: &ArgMatches<'a>) -> Result<&'a str, ToolFault>
     ensures { let said = value_at (rows_in options.now) (codes "VERB") in MatchResult result
         (λ verb. Has said IsRepositoryVerb verb.now)

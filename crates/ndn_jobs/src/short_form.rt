@@ -12,7 +12,8 @@ use crate::options;
 use clap::ArgMatches;
 use mgmt_core::Action;
 
-/// Returns the action that is named by the subcommand and by the verb in the options.
+/// Returns the action for the subcommand and the verb in the options, or the fault `BadValue` if
+/// there is no such action.
 pub fn action_in(subcommand: &str, options: &ArgMatches<'_>) -> Result<Action, ToolFault>
     ensures { Reads
         (Has (value_at (rows_in options.now) (codes "VERB")) (IsVerb subcommand.now)) result }

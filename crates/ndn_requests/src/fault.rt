@@ -4,7 +4,7 @@ use std::fmt;
 /// Why a packet got no answer.
 #[derive(Clone, Copy, Debug, PartialEq, Eq)]
 pub enum Silence {
-    /// No program listens on the port.
+    /// No program listens on the destination port.
     Closed,
     /// The name is under `/localhost`, and the packet was sent from a port that the system chose. A
     /// node accepts such names only from its Local peers.

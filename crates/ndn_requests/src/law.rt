@@ -64,8 +64,8 @@ pub fn statuses_decide()
         ≡ done_if (status == repo_code.OK || (status == repo_code.PENDING && is_insert name)) }
 {}
 
-/// Law: a command that was written counts as a command to a repository exactly if its name is not
-/// under `/localhost/nfd`.
+/// Law: a command that the client writes counts as a command to a repository exactly if its name is
+/// not under `/localhost/nfd`.
 pub fn commands_tell_whose_they_are()
     ensures { (name : List Field) (p : Parameters) (digest : List ℕ)
         → IsWhole (command_name name p)
