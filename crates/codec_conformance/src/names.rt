@@ -276,7 +276,7 @@ fn octets_of(alloc: Global, input: &str) -> Option<String> {
     }
 }
 
-/// Returns the octets of a name, if `counted` is the number of the name's components.
+/// Returns the octets of a name, or `None` if `counted` is not the number of the name's components.
 fn octets_counted(
     alloc: Global,
     name: Name<'_>,

@@ -61,14 +61,14 @@ fn outcome(alloc: Global, input: &str) -> Option<String> {
 }
 
 /// Reads each proper prefix of a packet. If all these prefixes have the same outcome, returns this
-/// outcome.
+/// outcome. Otherwise returns `None`.
 fn cut(alloc: Global, input: &str) -> Option<String> {
     let octets = packet(alloc, input)?;
     cut_shown(alloc, &octets)
 }
 
 /// Reads each proper prefix of these octets. If all these prefixes have the same outcome, returns
-/// this outcome.
+/// this outcome. Otherwise returns `None`.
 fn cut_shown(alloc: Global, octets: &[u8]) -> Option<String> {
     let outcome = outcome_of(&[]);
     for end in 0..octets.len() {
@@ -108,7 +108,8 @@ fn nack_shown(alloc: Global, reason: u64, octets: &[u8]) -> Option<String> {
     format!(in alloc; "Nack {reason} {octets}").ok()
 }
 
-/// Returns the octets of an optional field as text.
+/// Returns the octets of a field in hexadecimal, `empty` if the field has no octets, or `none` if
+/// there is no such field.
 fn value_text(alloc: Global, value: Option<&[u8]>) -> Option<String> {
     match value {
         None => String::from_str(alloc, "none").ok(),

@@ -26,7 +26,8 @@ fn put(alloc: Global, store: &mut Store, words: &str) -> Option<bool> {
     put_packet(store, &packet, arrival)
 }
 
-/// Puts the Data that `packet` encodes into the store, and returns whether the Data is cached.
+/// Puts a Data into the store, and returns whether the Data is cached. `packet` is the encoding of
+/// the Data.
 fn put_packet(store: &mut Store, packet: &[u8], arrival: u64) -> Option<bool> {
     match read_frame(packet).ok()? {
         Frame::Data(data) => Some(store.put(&data, arrival)),
@@ -244,7 +245,8 @@ fn put_others(alloc: Global, store: &mut Store, count: u32) -> Option<bool> {
     Some(true)
 }
 
-/// Returns the Data that an Interest with this name and without flags gets at the moment 0.
+/// Returns the Data that an Interest with this name and without flags gets at the moment 0, or
+/// `None` if the Interest gets no Data.
 fn found<'a>(store: &'a mut Store, name: Name<'_>) -> Option<&'a [u8]> {
     store.find(key_of(name, ""), 0)
 }

@@ -522,7 +522,8 @@ fn sends_to_64_faces(table: &mut Table, key: Key<'_>) -> bool {
     table.pit.used(key).len() == 64
 }
 
-/// Returns whether Interests of 64 faces are recorded, are sent to all 64 faces, and are answered.
+/// Calls `sends_to_64_faces`. Returns whether this call returns true, and a Data with the name of
+/// the key is then sent to 64 faces.
 fn holds_64_faces(alloc: Global, table: &mut Table, key: Key<'_>, _other: Key<'_>) -> Option<bool> {
     let holds = sends_to_64_faces(table, key);
     let packet = empty_data(alloc, key.name)?;

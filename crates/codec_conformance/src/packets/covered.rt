@@ -82,6 +82,7 @@ fn lends(octets: &mut [u8]) -> bool {
 }
 
 /// If the HopLimit in the octets is now 6, returns the original HopLimit `limit` and the octets.
+/// Otherwise returns `None`.
 fn lent_shown(alloc: Global, limit: Option<u8>, octets: &[u8]) -> Option<String> {
     if hop_limit_of(octets) != Some(6) {
         return None;
@@ -91,6 +92,7 @@ fn lent_shown(alloc: Global, limit: Option<u8>, octets: &[u8]) -> Option<String>
 }
 
 /// If the octets are still those of the packet in the row `input`, returns the HopLimit `limit`.
+/// Otherwise returns `None`.
 fn kept_shown(alloc: Global, limit: Option<u8>, octets: &[u8], input: &str) -> Option<String> {
     if !is_packet(alloc, octets, input) {
         return None;

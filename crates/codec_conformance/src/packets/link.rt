@@ -9,13 +9,13 @@ use ndn_packets::{put_lp, read_lp, wrap};
 use std::alloc::Global;
 use std::test::*;
 
-/// Returns the PIT token of a frame.
+/// Returns the PIT token of a frame, or the text `none` if the frame has no PIT token.
 fn token(alloc: Global, input: &str) -> Option<String> {
     let octets = packet(alloc, input)?;
     token_in(alloc, &octets)
 }
 
-/// Returns the PIT token of the frame in these octets.
+/// Returns the result of `token` for the frame in these octets.
 fn token_in(alloc: Global, octets: &[u8]) -> Option<String> {
     value_text(alloc, read_lp(octets).ok()?.token)
 }

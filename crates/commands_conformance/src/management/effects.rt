@@ -388,7 +388,7 @@ fn deepen(name: &mut NameBuf) -> Option<()> {
     Some(())
 }
 
-/// Adds a next hop and returns the status.
+/// Adds a next hop of this name on the face `face`, and returns the command's status.
 fn added(station: &mut Station, name: &NameBuf, face: u64) -> u16 {
     station.status_of(&adds(name.view(), face))
 }
@@ -403,7 +403,8 @@ fn add_4096(alloc: Global, station: &mut Station) -> Option<()> {
     Some(())
 }
 
-/// Adds a next hop for the name with this number, and returns the status.
+/// Adds a next hop of the name with this number on the face `face`, and returns the command's
+/// status.
 fn added_at(alloc: Global, station: &mut Station, number: u16, face: u64) -> Option<u16> {
     let name = numbered(alloc, number)?;
     Some(added(station, &name, face))
@@ -522,7 +523,7 @@ fn set_unknown(alloc: Global, station: &mut Station) -> Option<u16> {
     set_at(alloc, station, 4096, &unknown)
 }
 
-/// Sets the strategy of a name and returns the status.
+/// Sets the strategy of the name `name` to `strategy`, and returns the command's status.
 fn set(station: &mut Station, name: &NameBuf, strategy: &NameBuf) -> u16 {
     let command = Command {
         action: Action::SetStrategy,
@@ -576,7 +577,7 @@ fn has_two_segments(alloc: Global, station: &mut Station) -> Option<bool> {
     is_cut(alloc, station, 4097, 1, 1)
 }
 
-/// Adds a route to face 2. A dataset with only this route has `len` octets.
+/// Adds a next hop on face 2. A dataset of routes that has only this next hop has `len` octets.
 fn add_long(alloc: Global, station: &mut Station, len: usize) -> Option<()> {
     let name = long_name(alloc, len)?;
     add_hop(station, &name, 2)
@@ -603,7 +604,7 @@ pub fn sevens(alloc: Global, len: usize) -> Option<Vec<u8>> {
     Some(octets)
 }
 
-/// Adds a next hop. Returns `None` if the next hop is refused.
+/// Adds a next hop of this name on the face `face`. Returns `None` if the next hop is refused.
 fn add_hop(station: &mut Station, name: &NameBuf, face: u64) -> Option<()> {
     if added(station, name, face) != 200 {
         return None;
@@ -669,7 +670,7 @@ fn first_segment(alloc: Global, station: &Station) -> Option<Vec<u8>> {
     segment_packet(alloc, name.view(), &segment, last)
 }
 
-/// Adds a route for `/A` to face 7.
+/// Adds a next hop of `/A` on face 7.
 fn add_route_to_7(alloc: Global, station: &mut Station) -> Option<()> {
     let name = NameBuf::from_uri(alloc, "/A").ok()?;
     add_hop(station, &name, 7)
@@ -689,7 +690,7 @@ fn packet_of_one_route(alloc: Global) -> Option<Vec<u8>> {
     first_packet(alloc, &mut station)
 }
 
-/// Adds a route for `/A` to face 7, and returns the Data for the first segment of the dataset of
+/// Adds a next hop of `/A` on face 7, and returns the Data for the first segment of the dataset of
 /// routes.
 fn first_packet(alloc: Global, station: &mut Station) -> Option<Vec<u8>> {
     add_route_to_7(alloc, station)?;

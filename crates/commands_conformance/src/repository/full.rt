@@ -13,7 +13,7 @@ const INSERT: [u8; 60] =
 /// The Data `/N`. N has four octets, which begin at index 6.
 const DATA: [u8; 17] = *b"\x06\x0f\x07\x06\x08\x04NNNN\x16\x03\x1b\x01\x00\x17\x00";
 
-/// Returns whether an insert of `/N`, where N is `number`, has this status.
+/// Applies an insert of `/N`, where N is `number`, and returns whether the insert has this status.
 fn inserts(repo: &mut Repo, number: u32, status: u16) -> bool {
     let mut octets = INSERT;
     octets[22..26].copy_from_slice(&number.to_be_bytes());
@@ -23,7 +23,7 @@ fn inserts(repo: &mut Repo, number: u32, status: u16) -> bool {
     status_at_0(repo, name) == Some(status)
 }
 
-/// Returns whether the Data `/N`, where N is `number`, answers a want.
+/// Offers the Data `/N`, where N is `number`, and returns whether the Data answers a want.
 fn fills(repo: &mut Repo, number: u32) -> bool {
     let mut octets = DATA;
     octets[6..10].copy_from_slice(&number.to_be_bytes());

@@ -26,7 +26,8 @@ fn put_all(alloc: Global, store: &mut Store, fresh: &[u8], at: u32) -> Option<bo
     Some(true)
 }
 
-/// Returns the Data that a lookup with MustBeFresh finds under a name at this moment.
+/// Returns the Data that a lookup with MustBeFresh finds under a name at this moment, or `None` if
+/// the lookup finds no Data.
 fn fresh_under<'a>(store: &'a mut Store, name: Name<'_>, now: u64) -> Option<&'a [u8]> {
     store.find(key_of(name, "pf"), now)
 }
@@ -38,12 +39,14 @@ fn is_given_in_time(store: &mut Store, name: Name<'_>, fresh: &[u8]) -> bool {
     is_given && fresh_under(store, name, 10).is_none()
 }
 
-/// Removes 600 Data. Returns whether the fresh Data is still found.
+/// Erases at most 600 Data under `name`. Returns whether exactly 600 Data are erased, and the fresh
+/// Data is still found.
 fn is_left(store: &mut Store, name: Name<'_>, fresh: &[u8]) -> bool {
     store.erase(name, Some(600)) == 600 && fresh_under(store, name, 9) == Some(fresh)
 }
 
-/// Removes the Data with the name `own`. Returns whether no fresh Data is found afterwards.
+/// Erases all Data under `own`, the name of the fresh Data. Returns whether exactly one Data is
+/// erased, and no fresh Data is found under `name` afterwards.
 fn is_gone(store: &mut Store, name: Name<'_>, own: Name<'_>) -> bool {
     store.erase(own, None) == 1 && fresh_under(store, name, 9).is_none()
 }

@@ -99,7 +99,7 @@ fn compare(made: &Made, other: &Made) -> Ordering {
 }
 
 /// Returns the cached Data with the least full name among those that can answer the Interest
-/// `asked`.
+/// `asked`, or `None` if no cached Data can answer this Interest.
 fn least<'a>(all: &'a [Made], held: &[Held], asked: Asked) -> Option<(Held, &'a Made)> {
     let mut least: Option<(Held, &Made)> = None;
     for one in held {

@@ -70,7 +70,7 @@ impl Records {
         self.asked.retain(|sent| has_key(asks, sent.key));
     }
 
-    /// Returns the Interest of a face under a key.
+    /// Returns the Interest of a face under a key, or `None` if there is no such Interest.
     fn ask_of(&self, key: usize, face: u64) -> Option<Asks> {
         for ask in &self.asks {
             if ask.key == key && ask.face == face {
@@ -80,7 +80,8 @@ impl Records {
         None
     }
 
-    /// Returns the moment at which an Interest under a key was last sent to a face.
+    /// Returns the moment at which an Interest under a key was last sent to a face, or `None` if
+    /// the key has no out-record for the face.
     fn moment_of(&self, key: usize, face: u64) -> Option<u64> {
         for sent in &self.asked {
             if sent.key == key && sent.face == face {

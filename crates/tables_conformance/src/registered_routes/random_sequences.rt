@@ -169,7 +169,8 @@ impl Plain {
         false
     }
 
-    /// Returns the cost of the next hop of a name on a face.
+    /// Returns the cost of the next hop of a name on a face, or `None` if there is no such next
+    /// hop.
     fn hop_cost(&self, name: usize, face: u64) -> Option<u64> {
         for hop in &self.hops {
             if hop.name == name && hop.face == face {
@@ -179,8 +180,8 @@ impl Plain {
         None
     }
 
-    /// Returns the least cost of a name's routes on a face. If `inherited_alone` is set, only the
-    /// child-inherit routes count.
+    /// Returns the least cost of a name's routes on a face, or `None` if there are no such routes.
+    /// If `inherited_alone` is set, only the child-inherit routes count.
     fn least_cost(&self, name: usize, face: u64, inherited_alone: bool) -> Option<u64> {
         let mut least = None;
         for one in &self.routes {
@@ -193,7 +194,7 @@ impl Plain {
     }
 
     /// Among the proper prefixes of a name, returns the longest one that has a child-inherit route
-    /// on a face.
+    /// on a face, or `None` if no proper prefix has such a route.
     fn nearest(&self, name: usize, face: u64) -> Option<usize> {
         let mut nearest = None;
         for above in 0..8 {
@@ -239,7 +240,8 @@ impl Plain {
         self.least_cost(above, face, true)
     }
 
-    /// Returns the cost of the effective next hop of a name on a face.
+    /// Returns the cost of the effective next hop of a name on a face, or `None` if there is no
+    /// such next hop.
     fn cost(&self, seen: &mut Seen, name: usize, face: u64) -> Option<u64> {
         if let Some(cost) = self.hop_cost(name, face) {
             return Some(cost);
@@ -250,7 +252,8 @@ impl Plain {
         self.inherited_cost(seen, name, face)
     }
 
-    /// Among the prefixes of a name, returns the longest one that has a next hop or a route.
+    /// Among the prefixes of a name, returns the longest one that has a next hop or a route, or
+    /// `None` if no prefix has one.
     fn longest(&self, name: usize) -> Option<usize> {
         let mut longest = None;
         for prefix in 0..8 {
@@ -271,7 +274,7 @@ struct Seen {
     ended: u64,
 }
 
-/// Returns the cost of the next hop on this face.
+/// Returns the cost of the next hop on this face, or `None` if no next hop is on this face.
 fn cost_in(hops: &Hops, face: u64) -> Option<u64> {
     let mut cost = None;
     for i in 0..hops.len() {

@@ -293,7 +293,7 @@ fn leaves_the_older_route(alloc: Global, routes: &mut RouteTable) -> Option<bool
     keeps_one_route(routes, name.view())
 }
 
-/// Runs `play` on an empty table.
+/// Returns what `play` returns for an empty table.
 fn played(alloc: Global, play: fn(Global, &mut RouteTable) -> Option<bool>) -> Option<bool>
     requires { IsAlwaysCallable play }
 {
