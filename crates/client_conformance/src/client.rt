@@ -99,7 +99,8 @@ pub fn turn(
     heard(alloc, exchange, &answers, book)
 }
 
-/// Returns the final result of an exchange, or `None` if the exchange needs more than 10 answers.
+/// Returns the first result of `turn` that is not `Next`, or `None` if 10 calls of `turn` give no
+/// such result.
 pub fn played(
     alloc: Global,
     scene: &mut Scene,

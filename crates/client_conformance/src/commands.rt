@@ -54,8 +54,8 @@ fn other_commands(rt: HostRuntime) {
     assert!(rt; row == Some(0), "line {row:?}");
 }
 
-/// Commands that are answered with the statuses of `docs/MANAGEMENT.md`, except 200 and 503. The
-/// last three rows are requests without an answer.
+/// Rows in the form of `TEN_COMMANDS`, for each status of `docs/MANAGEMENT.md` except 200 and 503.
+/// The last three rows are requests without an answer.
 const STATUSES: &str = "
 route add /A --face 7 $KEY $NODE => refused status 410 face not open␊
 route add /1/2/3/4/5/6/7/8/9/0/1/2/3/4/5/6/7/8/9/0/1/2/3/4/5/6/7/8/9/0/1/2/3 --face 2 $KEY $NODE => refused status 414 prefix too long␊

@@ -10,7 +10,7 @@ use std::net::{IpAddr, Ipv4Addr, SocketAddr};
 use std::process::Abort;
 use test_support::first_misshown;
 
-/// Returns the request of a command line.
+/// Returns the request of a command line, or the fault if the command line is refused.
 fn asked(alloc: Global, command: &str) -> Result<Request, Fault> {
     let words: Vec<&str> = command.split(' ').collect(alloc)?;
     request_of(alloc, words.as_slice())

@@ -168,13 +168,13 @@ fn check_answers(rt: &impl Abort, dialogue: &str, outcome: &str) {
     assert!(rt; answers.next() == Some("Ok(())"), "not the end");
 }
 
-/// Returns a node under these rules.
+/// Returns a node with these rules and a cache of `cache` Data.
 fn node_under(alloc: Global, rules: &str, cache: u32) -> Option<Node> {
     Node::new(alloc, parts_of(alloc, rules, cache)?).ok()
 }
 
-/// Returns what `play` returns for a new node under these rules, or `None` if the node cannot be
-/// created.
+/// Returns what `play` returns for a new node with these rules and a cache of `cache` Data, or
+/// `None` if the node cannot be created.
 fn on_node_under<F: Fn(Global, &mut Node) -> Option<bool>>(
     alloc: Global,
     rules: &str,

@@ -35,12 +35,12 @@ fn packet_of(alloc: Global, word: &str) -> Option<Vec<u8>> {
     hex::decode(alloc, if word == "-" { "" } else { word }).ok()
 }
 
-/// Returns the number that the word at index `i` of a line gives.
+/// Returns the word at index `i` of a line as a number, or `None` if this word is not a number.
 fn number(line: &str, i: usize) -> Option<u64> {
     word(line, i).parse::<u64>().ok()
 }
 
-/// Returns the scope for a word of a script.
+/// Returns the scope Local for the word `local`, and the scope Far for any other word.
 fn scope_of(word: &str) -> Scope {
     if word == "local" {
         Scope::Local
@@ -68,7 +68,8 @@ fn new_rules_of(alloc: Global, line: &str, now: u64) -> Option<OwnedEvent> {
     Some(OwnedEvent::NewRules { rules, keys, now })
 }
 
-/// Returns the event that a line of a script spells.
+/// Returns the event that a line of a script spells, or `None` if a part of the line cannot be
+/// read.
 pub fn event_of(alloc: Global, line: &str) -> Option<OwnedEvent> {
     let face = number(line, 1)?;
     match word(line, 0) {
@@ -106,7 +107,8 @@ fn new_rules_arrival(alloc: Global, line: &str, now: u64) -> Option<OwnedArrival
     Some(OwnedArrival::NewRules { renewal, now })
 }
 
-/// Returns the arrival that a line of a script spells.
+/// Returns the arrival that a line of a script spells, or `None` if a part of the line cannot be
+/// read.
 fn arrival_of(alloc: Global, line: &str) -> Option<OwnedArrival> {
     let face = number(line, 1)?;
     match word(line, 0) {

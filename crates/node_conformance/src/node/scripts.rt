@@ -64,7 +64,7 @@ fn played(alloc: Global, script: &str) -> Option<String> {
     shown_outcome(alloc, script.as_str())
 }
 
-/// Returns whether a row's script has the result after the row's arrow.
+/// Returns whether `played` returns, for the script of a row, the text after the row's arrow.
 fn is_played(alloc: Global, row: &str) -> bool {
     let (script, wanted) = row.split_once(" -> ").unwrap_or((row, "no arrow"));
     played(alloc, script).as_deref() == Some(wanted)

@@ -134,7 +134,7 @@ fn passes<M: Moments>(alloc: Global, node: &mut Node, ports: &mut UdpPorts<M>, t
         })
 }
 
-/// Takes a turn, and returns whether the node has this verdict on the arrival.
+/// Takes a turn, and returns whether the node has this verdict on the arrival and no send fails.
 fn says(alloc: Global, node: &mut Node, ports: &mut UdpPorts<Still>, verdict: Verdict) -> bool {
     serve_turn(node, ports, &mut Outbox::new(alloc)) == Ok(Turn::Done { verdict, failed: 0 })
 }
@@ -507,7 +507,8 @@ fn answered_at(
     answered
 }
 
-/// Returns the number of clients that a node answers at new ports.
+/// Returns what `answered_at` returns for a node at new ports that close a face after 600 seconds
+/// of silence.
 fn answered_by(rt: &(impl AllocGlobal + Net), node: &mut Node, moment: &Cell<u64>) -> Option<u64> {
     let listen = free_port(rt)?;
     let mut ports = handed_ports(rt, listen, moment)?;
@@ -515,7 +516,7 @@ fn answered_by(rt: &(impl AllocGlobal + Net), node: &mut Node, moment: &Cell<u64
     Some(answered_at(rt, node, &mut ports, listen, moment))
 }
 
-/// Returns whether a node answers this many clients at new ports.
+/// Returns whether `answered_by` returns this number of clients for a node.
 fn node_answers(
     rt: &(impl AllocGlobal + Net),
     node: &mut Node,
@@ -525,7 +526,7 @@ fn node_answers(
     Some(answered_by(rt, node, moment)? == clients)
 }
 
-/// Returns whether a new node answers this many clients at new ports.
+/// Returns what `node_answers` returns for a new node.
 fn answers_clients(
     rt: &(impl AllocGlobal + Net),
     moment: &Cell<u64>,
@@ -630,7 +631,7 @@ fn udp_waits_while_a_face_closes(rt: HostRuntime) {
     assert!(rt; hears_what_waits(&rt, &Cell::new(0)) == Some(true));
 }
 
-/// Returns whether this many faces open at this moment.
+/// Returns whether the next arrivals open the faces 1 to `faces`, in this order, at this moment.
 fn open_all<M: Moments>(ports: &mut UdpPorts<M>, faces: u64, at: u64) -> bool {
     for face in 0..faces {
         if !brings_face(ports, face.saturating_add(1), at) {
