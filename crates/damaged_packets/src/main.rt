@@ -7,7 +7,7 @@
 //! prints an empty line, and then one line for each run of equal results. A line for a run has the
 //! length of the run, the name of the fault or the kind of packet, the number of components of the
 //! packet's name, and the packet's InterestLifetime, FreshnessPeriod or NackReason. The last two
-//! numbers are 0 for a fault and for a link packet without a packet.
+//! numbers are 0 for a fault and for an idle link packet, which contains no packet.
 #![tactic(auto)]
 
 use limited_reads::read_line_within;
@@ -28,9 +28,10 @@ const MAX_PACKETS: u32 = 1000;
 struct Found {
     /// The name of the fault, or the kind of packet that was read.
     word: &'static str,
-    /// The number of components of the packet's name.
+    /// The number of components of the packet's name, or 0 for a fault or an idle link packet.
     components: usize,
-    /// The InterestLifetime, the FreshnessPeriod or the NackReason of the packet.
+    /// The InterestLifetime, the FreshnessPeriod or the NackReason of the packet, or 0 for a fault
+    /// or an idle link packet.
     number: u64,
 }
 
@@ -107,7 +108,7 @@ fn read_with<R: Print>(rt: &R, packet: &mut [u8], value: u8, run: &mut Run) -> i
     Ok(())
 }
 
-/// Reads a packet and all its damaged forms.
+/// Reads a packet and all its damaged forms, and prints the runs of equal results.
 fn read_all<R: Print>(rt: &R, packet: &mut [u8]) -> io::Result<()> {
     let mut run = Run {
         found: found_of(&[]),
@@ -122,7 +123,8 @@ fn read_all<R: Print>(rt: &R, packet: &mut [u8]) -> io::Result<()> {
     print_run(rt, &run)
 }
 
-/// Returns the packet in a line that ends with an LF.
+/// Returns the packet whose hexadecimal digits are the line without its last octet, which is an LF.
+/// The error is `InvalidData` if the digits are not hexadecimal.
 fn packet_of(alloc: Global, line: &[u8]) -> io::Result<Vec<u8>> {
     match hex::decode(alloc, &line[..line.len().saturating_sub(1)]) {
         Ok(packet) => Ok(packet),

@@ -1,5 +1,5 @@
-//! The messages that the programs print for a fault in a key file, and the reasons that they give
-//! for a file that cannot be read.
+//! The messages that the programs print for a fault in a key file, and the reasons that the
+//! programs give for a file that cannot be read.
 #![tactic(auto)]
 
 ghost use Rattle.std.specs.Prelude.{◌≡◌, Some};

@@ -34,9 +34,9 @@ pub fn read_within<R: Read + Drop>(
     Ok(kept_within(octets, limit))
 }
 
-/// Reads the next line of a reader, including its LF. Returns `None` if the line, including its LF,
-/// has more than `limit` octets. At most `limit` + 1 octets are read, and the rest of a longer line
-/// stays in the reader. At the end of the reader the line is empty.
+/// Reads the next line of a reader, including the LF at its end if there is one. Returns `None` if
+/// the line, including this LF, has more than `limit` octets. At most `limit` + 1 octets are read,
+/// and the rest of a longer line stays in the reader. At the end of the reader the line is empty.
 pub fn read_line_within<R: BufRead>(
     alloc: Global,
     reader: &mut R,

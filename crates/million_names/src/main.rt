@@ -1,9 +1,9 @@
 //! Puts a million names into a map. Removes each name after 64 further names were put in, and
-//! finally removes the last 64 names. Counts the names in the map after each insertion and the
-//! removal that follows the insertion, if there is one. Prints the greatest of these counts, and
-//! how many names are in the map at the end. By the map's invariant, each node of the map has a
-//! value or a child, except the node of a name for which `prepare` was called. So a map with no
-//! names has no node if `prepare` was never called.
+//! finally removes the last 64 names. Counts the names in the map once for each insertion: after
+//! the removal that follows the insertion, or after the insertion itself if no removal follows.
+//! Prints the greatest of these counts, and how many names are in the map at the end. By the map's
+//! invariant, each node of the map has a value or a child, except the node of a name for which
+//! `prepare` was called. So a map with no names has no node if `prepare` was never called.
 #![tactic(auto)]
 
 use name_trie::NameMap;

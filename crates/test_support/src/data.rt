@@ -7,7 +7,8 @@ use std::alloc::Global;
 
 /// Returns a Data that is signed with DigestSha256. `uri` is the URI of the Data's name. `content`
 /// is the Data's Content, in hexadecimal words that `octets` reads. `freshness` is the
-/// FreshnessPeriod in milliseconds. Returns `None` if the Data cannot be written.
+/// FreshnessPeriod in milliseconds. Returns `None` if `uri` or `content` is malformed, or if the
+/// Data cannot be written.
 pub fn data_of(alloc: Global, uri: &str, content: &str, freshness: Option<u64>) -> Option<Vec<u8>> {
     let name = NameBuf::from_uri(alloc, uri).ok()?;
     written_data(alloc, name.view(), &octets(alloc, content)?, freshness)
@@ -32,7 +33,8 @@ fn written_data<'a>(
 }
 
 /// Returns in hexadecimal the Content of the Data that `packet` encodes. Returns the text `none` if
-/// `packet` is `None`. Returns `None` if the packet is not a Data with a Content.
+/// `packet` is `None`. Returns `None` if the packet is not a Data with a Content, or if memory runs
+/// out.
 pub fn content_shown(alloc: Global, packet: Option<&[u8]>) -> Option<String> {
     let Some(packet) = packet else {
         return String::from_str(alloc, "none").ok();
