@@ -31,7 +31,7 @@ in 2 1000000 NO_ROUTE_OF_7F
 ";
 
 /// A Nack is sent back with the token of its Interest if there is no route, if the Interest loops,
-/// or if a next hop has sent a Nack with another token.
+/// or if the only next hop has sent a Nack, even a Nack with another token.
 #[test]
 fn token_on_nack(rt: HostRuntime) {
     replies(&rt, NO_ROUTE_FOR_A_TOKEN);
