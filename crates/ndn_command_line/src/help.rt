@@ -21,7 +21,8 @@ Exit status:
   0  the command line was carried out
   1  a key file has a fault, or the key that --key names is missing; a packet would be too long, or
      would have a name that is not allowed; the octets given to show or explain are not a packet
-  2  the command line is wrong; standard input is too long or, for send, not hexadecimal
+  2  the command line is wrong; for explain, a line of standard input is too long; for send,
+     standard input is too long or not hexadecimal
   3  reading, writing or sending failed, the subcommand send got no answer, or memory ran out
 
 If route, strategy, cache, repo or peek sends a packet, the exit status is 0 only if one of these
@@ -68,9 +69,9 @@ pub const ROUTE: &str =
                                        removes a registered route
   list                                 asks for the list of all routes
 
-With --send, the request is sent. Then the fields of the answer are printed. If the request was for
-a list, the list is printed as a table, with tabs between its columns. Without --send, the request
-is only printed, in hexadecimal. The option --from requires --send.
+With --send, the request is sent. Then the fields of the answer are printed; for a list, a table is
+printed instead, with tabs between its columns. Without --send, the request is only printed, in
+hexadecimal. The option --from requires --send.
 
 The signature of a command is HmacWithSha256 with --key, and DigestSha256 without --key. If --time
 is absent, the signature time is the time of the clock. If --nonce is absent, the Nonce is computed
@@ -96,9 +97,9 @@ pub const STRATEGY: &str = "The verbs, with the arguments that they require:
   list                 asks for the list of all strategies
 STRATEGY is best-route, multicast or the URI of a strategy.
 
-With --send, the request is sent. Then the fields of the answer are printed. If the request was for
-a list, the list is printed as a table, with tabs between its columns. Without --send, the request
-is only printed, in hexadecimal. The option --from requires --send.
+With --send, the request is sent. Then the fields of the answer are printed; for a list, a table is
+printed instead, with tabs between its columns. Without --send, the request is only printed, in
+hexadecimal. The option --from requires --send.
 
 The signature of a command is HmacWithSha256 with --key, and DigestSha256 without --key. If --time
 is absent, the signature time is the time of the clock. If --nonce is absent, the Nonce is computed
@@ -122,7 +123,7 @@ Example: print a command that erases at most 10 Data under /A.
 
 pub const REPOSITORY: &str = "The verbs:
   insert  lets the repository fetch the Data from the network and store it
-  delete  deletes the stored Data that match NAME
+  delete  deletes the stored Data that match NAME, and ends a waiting insert of NAME
   check   counts the stored Data that match NAME
 
 With --send, the command is sent, and then the fields of the answer are printed. Without --send, the
@@ -158,8 +159,8 @@ Example: a Data named /A.
 pub const EXPLAIN: &str =
     "Prints the lines of show, and also these parts of the packet, if it has them: the PIT token;
 the name of the Nack's reason; the key locator, the time and the sequence number of the signature;
-the number of the segment; the fields of the command, the reply or the list; the Content as text.
-With --keys, also prints whether the signature is right.
+the number of the segment; the fields of the command, the reply or the list; the Content as text, if
+it is printable ASCII. With --keys, also prints whether the signature is right.
 
 If HEX is -, the packets in the lines of standard input are explained. A packet in hexadecimal can
 be the whole line, or can follow `> FACE` as in the output of ndn_node. If the octets of such a line

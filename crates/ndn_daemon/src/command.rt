@@ -93,10 +93,10 @@ the node drops the datagrams of strangers.
 
 The face of a stranger becomes idle when nothing has come from the stranger for the time of --idle.
 Before the node handles a datagram, it closes the idle faces, one in each turn. If 64 endpoints have
-faces, and a stranger without a face sends a datagram, the node closes the face of the stranger that
-has been silent longest, but only if this face has been silent for at least 10 seconds. If there is
-no such face, the node drops the datagram. While the node runs, it never gives the same number to
-two faces.
+faces, and an endpoint without a face sends a datagram, the node looks at the faces of strangers. It
+closes the face that has been silent longest, but only if this silence has lasted at least 10
+seconds. If there is no such face, the node drops the datagram. While the node runs, it never gives
+the same number to two faces.
 
 A turn handles one event: a face opens or closes, a packet arrives, or the node takes new rules and
 keys. The node prints turn N as `script` prints event N. It reads the time from the machine's clock.
@@ -108,12 +108,12 @@ and keys. Each line of a key file has the URI of a key's name, a space, and the 
 
 With --journal, the node writes a line to FILE for each allowed command, and for every other event
 that changes faces, routes, strategies, rules or the repository. It writes the line before it sends
-the packets of the event. It writes no line when a route expires. A node that is started with FILE
-later continues from the state in FILE, even after a crash, but with the rules and keys of its own
---rules and --keys. A peer keeps its face if its place in PEERS and its scope (Local or Far) are as
-before. All other faces close. The first turns take new rules and keys, and close these faces. FILE
-is a script. It contains the keys. Only one node at a time can use it. The rule file and the key
-file must have at most 9985 octets together.
+the packets of the event. It writes no line when a route expires. When a node is started with FILE
+again, it continues from the state in FILE, even after a crash, but with the rules and keys of its
+own --rules and --keys. A peer keeps its face if its place in PEERS and its scope (Local or Far) are
+as before. All other faces close. The first turns take new rules and keys, and close these faces.
+FILE is a script. It contains the keys. Only one node at a time can use it. The rule file and the
+key file must have at most 9985 octets together.
 
 The log goes to standard error, even with --quiet. Between --log and PEERS there must be a value or
 another option: write `--log all` or `--log events`.
