@@ -40,8 +40,8 @@ IsLineAt time e =
     (event : PlainEvent) → IsEventOf time e event → IsTextOf (event ∷ []) (entry_text time e)
 
 -- If the event is journalled, its line with the time `time` was appended, and the line spells the
--- event. If the event is not journalled, nothing was appended. If the old content of the journal is
--- not known (None), nothing is stated.
+-- event (`IsLineAt`). If the event is not journalled, nothing was appended. If the old content of
+-- the journal is not known (None), nothing is stated.
 abbrev pub Journals : Option (List ℕ) → Option (List ℕ) → ℕ → Coming → Verdict → Type 0
 Journals None new time coming verdict = ⊤
 Journals (Some text) new time coming verdict =
@@ -50,7 +50,7 @@ Journals (Some text) new time coming verdict =
     × (chosen ≡ true → IsLineAt time coming.entry)
 
 -- A prefix of the line of the entry was appended to `text`. The prefix may be empty or the whole
--- line. The line spells the event of the entry.
+-- line. The line spells the event of the entry (`IsLineAt`).
 pub record CutsLine (text : List ℕ) (new : Option (List ℕ)) (time : ℕ) (e : Entry) : Type 0 where
   pub front : List ℕ
   pub back : List ℕ

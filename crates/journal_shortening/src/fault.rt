@@ -10,8 +10,8 @@ pub enum ShortenFault {
     #[error("line {0} of the journal is a bad line")]
     BadLine(u64),
     /// The packet in the line with this number is not allowed, or is neither a command nor a Data
-    /// that the repository wants. A node journals no such packet, so the rules, the keys or the
-    /// repository's prefix differ from those of the node that wrote the journal.
+    /// that the repository wants. A node journals no such packet. So the journal was changed, or
+    /// the repository's prefix differs from that of the node that wrote the journal.
     #[error("no node with these options journals line {0}")]
     NotJournalled(u64),
     /// The journal has 4,294,967,295 or more whole lines.

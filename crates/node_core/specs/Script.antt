@@ -33,8 +33,8 @@ SpellEvents (line ∷ lines) (event ∷ events) =
     ⊎ (IsEventLine event line × SpellEvents lines events)
 
 -- The text with an LF appended consists of these lines, each with its LF, followed by `rest`. The
--- appended LF ends a last line that has no LF. If the text ends with an LF, the appended LF adds an
--- empty line, which a script skips.
+-- appended LF ends a last line that has no LF. If the text is empty or ends with an LF, the
+-- appended LF adds an empty line, which a script skips.
 abbrev pub BeginsWithLines : List ℕ → List (List ℕ) → List ℕ → Type 0
 BeginsWithLines text lines rest = AreLines lines × (ended text ≡ joined lines ++ rest)
 

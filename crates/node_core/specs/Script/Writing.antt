@@ -73,7 +73,7 @@ outcome_text rules number (Answered answer) =
 outcome_text rules number NoMemory = lines_text number (codes "memory") []
 
 -- The text of the answers to events, if `rules` are in force before the first event. The first
--- event has the number `number`. The id in the line of an event is the id of a rule that was in
+-- event has the number `number`. An id in the line of an event is the id of a rule that was in
 -- force before the event.
 abbrev pub outcomes_text : List PlainRule → ℕ → List PlainEvent → List Outcome → List ℕ
 outcomes_text rules number [] outcomes = []
