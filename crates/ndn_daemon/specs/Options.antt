@@ -42,7 +42,8 @@ pub record IsOptions (rows : List Row) (options : Options) : Type 0 where
   pub repo : ReadsAs (given_or (codes "/repo") (value_at rows (codes "repo"))) options.repo
   pub cache : IsCapacity (given_or (codes "1024") (value_at rows (codes "cache"))) options.cache
 
--- the options of the shortening of a journal; the parser refuses a command line without a path
+-- the options of the shortening of a journal; the parser refuses a command line without the path of
+-- the journal, so the default `[]` is never used
 pub record IsShorteningOptions (rows : List Row) (options : ShorteningOptions) : Type 0 where
   pub journal : string_bytes options.journal ≡ given_or [] (value_at rows (codes "shorten"))
   pub repo : ReadsAs (given_or (codes "/repo") (value_at rows (codes "repo"))) options.repo

@@ -95,8 +95,8 @@ The face of a stranger becomes idle when nothing has come from the stranger for 
 Before the node handles a datagram, it closes the idle faces, one in each turn. If 64 endpoints have
 faces, and an endpoint without a face sends a datagram, the node looks at the faces of strangers. It
 closes the face that has been silent longest, but only if this silence has lasted at least 10
-seconds. If there is no such face, the node drops the datagram. While the node runs, it never gives
-the same number to two faces.
+seconds. Otherwise the node drops the datagram. While the node runs, it never gives the same number
+to two faces.
 
 A turn handles one event: a face opens or closes, a packet arrives, or the node takes new rules and
 keys. The node prints turn N as `script` prints event N. It reads the time from the machine's clock.
