@@ -179,7 +179,7 @@ AreCounted read count =
     (octets : List ℕ) × (read ≡ Ok octets) × (count.0 ≡ length octets)
     × (count.1 ≡ is_periods octets)
 
--- The first `len` of the octets `octets` are the value whose text encodes `octets`. If `octets` are
--- periods only, the value lacks three of them. Otherwise the value is all of `octets`.
+-- The value whose text encodes `octets` consists of the first `len` octets of `octets`. If all of
+-- `octets` are periods, the value lacks three of them. Otherwise the value is all of `octets`.
 abbrev pub AreLeft : List ℕ → ℕ → Type 0
 AreLeft octets len = (unpadded octets ≡ Ok (take len octets)) × (len ≡ length (take len octets))

@@ -21,7 +21,7 @@ pub struct Component<'a> {
 }
 
 /// Returns `kind` as a `u16`, if a component may have the type `kind` and the value `value`.
-/// Returns the same faults as `kind_by_len`.
+/// Otherwise returns the fault that `kind_by_len` returns.
 #[inline(always)]
 pub(crate) fn component_kind(kind: u32, value: &[u8]) -> Result<u16, NameFault>
     ensures { on_result (λ k. Ok (k, value.now)) Err result ≡ component_of (kind, value.now) }
@@ -48,7 +48,9 @@ pub(crate) fn kind_by_len(kind: u32, len: usize) -> Result<u16, NameFault>
     Ok(kind)
 }
 
-/// Returns the component at the front of the octets, and the octets after it.
+/// Returns the component at the front of the octets, and the octets after it. Returns
+/// `BadComponent` if the octets do not begin with an element or its type is not the type of a
+/// component, and `BadDigestLength` for a digest whose value does not have 32 octets.
 #[inline(always)]
 pub(crate) fn first_component<'a>(octets: &'a [u8]) -> Result<(Component<'a>, &'a [u8]), NameFault>
     ensures shorter { IfOk result (λ x. length x.1.now < length octets.now) }

@@ -67,7 +67,7 @@ pub fn first_octet<'a>(first: u8, after: &'a [u8]) -> Result<(u8, &'a [u8]), Nam
 }
 
 /// Returns the number of octets that a text with percent escapes encodes, and whether all of these
-/// octets are periods.
+/// octets are periods. Returns `BadUri` if an escape of the text is invalid.
 fn count_octets(text: &[u8]) -> Result<(usize, bool), NameFault>
     ensures { MatchResult result (read.AreCounted (read.octets_in text.now))
         (λ fault. read.octets_in text.now ≡ Err fault) }
@@ -84,9 +84,9 @@ fn count_octets(text: &[u8]) -> Result<(usize, bool), NameFault>
     Ok((count, has_periods_only))
 }
 
-/// Returns the number of octets in a value whose text encodes `count` octets. Three octets are
-/// subtracted if all encoded octets are periods. Returns `BadUri` if the text encodes fewer than
-/// three octets and all of them are periods.
+/// Returns the number of octets in a value whose text encodes `count` octets. The result is
+/// `count - 3` if all encoded octets are periods (`has_periods_only`), otherwise `count`. Returns
+/// `BadUri` if the text encodes fewer than three octets and all of them are periods.
 fn unpadded_len(count: usize, has_periods_only: bool) -> Result<usize, NameFault>
     ensures shorter { IfOk result (λ len. len ≤ count) }
     ensures read { (octets : List ℕ) → count ≡ length octets
@@ -102,7 +102,8 @@ fn unpadded_len(count: usize, has_periods_only: bool) -> Result<usize, NameFault
     Ok(count - 3)
 }
 
-/// Returns the number that `text` represents in decimal digits.
+/// Returns the number that `text` represents in decimal digits, or `BadUri` if `text` is not a
+/// number below 2^64.
 fn decimal_number(text: &str) -> Result<u64, NameFault>
     ensures { result ≡ read.number_in text.now }
 {
@@ -116,6 +117,7 @@ fn decimal_number(text: &str) -> Result<u64, NameFault>
 }
 
 /// Returns the type number that `type_name` represents in decimal digits, without leading zeros.
+/// Returns `BadUri` if `type_name` is not such a number below 65536.
 fn type_of(type_name: &str) -> Result<u16, NameFault>
     ensures { result ≡ read.type_in type_name.now }
 {
@@ -129,7 +131,8 @@ fn type_of(type_name: &str) -> Result<u16, NameFault>
 }
 
 /// Returns the component that has the type `kind` and the value that `text` encodes. `text` may
-/// have percent escapes.
+/// have percent escapes. If there is no such component, returns `BadUri` for an invalid text, and
+/// otherwise the fault that `kind_by_len` returns.
 fn plain_text(kind: u16, text: &[u8]) -> Result<ComponentText<'_>, NameFault>
     ensures { MatchResult result
         (λ c. (field : Field) × (read.plain_in kind text.now ≡ Ok field) × IsTextOf field c)
@@ -156,7 +159,7 @@ fn value_text(text: &[u8], count: usize, len: usize) -> ValueText<'_>
 }
 
 /// Returns the digest component that has the type `kind` and the value that the hexadecimal digits
-/// in `text` encode.
+/// in `text` encode. Returns `BadUri` if `text` does not consist of 64 hexadecimal digits.
 fn digest_text(kind: u16, text: &[u8]) -> Result<ComponentText<'_>, NameFault>
     ensures { MatchResult result
         (λ c. (field : Field) × (read.digest_in kind text.now ≡ Ok field) × IsTextOf field c)
@@ -177,7 +180,7 @@ fn digest_text(kind: u16, text: &[u8]) -> Result<ComponentText<'_>, NameFault>
 }
 
 /// Returns the component that has the type `kind` and, as its value, the number that `text`
-/// represents in decimal digits.
+/// represents in decimal digits. Returns `BadUri` if `text` is not a number below 2^64.
 fn number_text(kind: u16, text: &str) -> Result<ComponentText<'_>, NameFault>
     ensures { MatchResult result
         (λ c. (field : Field) × (read.numbered_in kind text.now ≡ Ok field) × IsTextOf field c)
@@ -192,8 +195,9 @@ fn number_text(kind: u16, text: &str) -> Result<ComponentText<'_>, NameFault>
     })
 }
 
-/// Returns the component whose text has `type_name` before its first equals sign, and `text` after
-/// this equals sign.
+/// Returns the component whose text consists of `type_name`, an equals sign and `text`.
+/// `type_name` has no equals sign. Returns the same faults as `component_text` if there is no such
+/// component.
 fn typed_text<'a>(type_name: &str, text: &'a str) -> Result<ComponentText<'a>, NameFault>
     ensures { let typed = read.typed_in type_name.now text.now (kind_of type_name.now) in
         MatchResult result (λ c. (field : Field) × (typed ≡ Ok field) × IsTextOf field c)
@@ -219,7 +223,8 @@ pub fn component_text(piece: &str) -> Result<ComponentText<'_>, NameFault>
     }
 }
 
-/// Appends the octets that a text with percent escapes encodes.
+/// Appends the octets that a text with percent escapes encodes. Returns `BadUri` if an escape is
+/// invalid, and `Memory` if memory runs out. After a fault, some octets may have been appended.
 fn put_escaped(out: &mut Vec<u8>, text: &[u8]) -> Result<(), NameFault>
     ensures { let found = read.octets_in text.now in
         MatchResult result (λ _. read.Adds (λ octets. octets) found out.old.items out.new.items)
@@ -234,7 +239,9 @@ fn put_escaped(out: &mut Vec<u8>, text: &[u8]) -> Result<(), NameFault>
     Ok(())
 }
 
-/// Appends the octets that hexadecimal digits encode.
+/// Appends the octets that the hexadecimal digits in `text` encode. Returns `BadUri` if `text` has
+/// a character that is not such a digit, or an odd number of digits. Returns `Memory` if memory
+/// runs out. After a fault, some octets may have been appended.
 fn put_hexadecimal(out: &mut Vec<u8>, text: &[u8]) -> Result<(), NameFault>
     ensures { let found = read.hex_in text.now in
         MatchResult result (λ _. read.Adds (λ octets. octets) found out.old.items out.new.items)

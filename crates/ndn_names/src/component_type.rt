@@ -24,7 +24,7 @@ pub const BYTE_OFFSET: u16 = 52;
 /// VersionNameComponent: a version number.
 pub const VERSION: u16 = 54;
 
-/// TimestampNameComponent: microseconds since 1970.
+/// TimestampNameComponent: microseconds since 1 January 1970, 00:00 UTC.
 pub const TIMESTAMP: u16 = 56;
 
 /// SequenceNumNameComponent: the sequence number of an item in a collection.

@@ -26,7 +26,7 @@ pub fn canonical_order_is_total()
     ensures total { (a b : List Field) → Less a b ⊎ ((a ≡ b) ⊎ Less b a) }
 {}
 
-/// Law: maps can use names as keys, in canonical order.
+/// Law: names can be the keys of maps that are ordered by `name_cmp`.
 pub fn names_can_be_keys()
     ensures total { IsTotalOrder name_cmp }
     ensures antisymmetric { IsAntisymmetric name_cmp }

@@ -41,7 +41,7 @@ fn number_octets(value: ValueText<'_>) -> [u8; 8]
     }
 }
 
-/// Returns a text that encodes octets one after the other. These octets begin with the component's
+/// Returns a text that is not a `Number`. The octets that it encodes begin with the component's
 /// value. If the value is a number, `number` has to begin with the octets of the value.
 fn spelled_out<'a>(component: ComponentText<'a>, number: &'a [u8; 8]) -> ValueText<'a>
     requires { IsNumberIn number.now component.value }
@@ -53,8 +53,9 @@ fn spelled_out<'a>(component: ComponentText<'a>, number: &'a [u8; 8]) -> ValueTe
     }
 }
 
-/// Returns the first octet of a value, and the text of the octets after it. Returns `None` if the
-/// text is empty, is a number, or begins with an invalid encoding of an octet.
+/// Returns the first octet that a text encodes, and the text of the octets after this octet.
+/// Returns `None` if the text is empty, is a number, or begins with an invalid encoding of an
+/// octet.
 fn first_said(value: ValueText<'_>) -> Option<(u8, ValueText<'_>)>
     ensures { (octet : ℕ) (octets : List ℕ) → SaysFirst value.entry (octet ∷ octets)
         → MatchOption result ⊥ (λ x. (x.0 ≡ octet) × SaysFirst x.1 octets) }

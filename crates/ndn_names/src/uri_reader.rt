@@ -21,10 +21,9 @@ const SPARE: usize = 16;
 /// Reads the URI text of one component, for example `A` or `seg=5`. Returns the type and the value
 /// of the component.
 ///
-/// Returns the same faults as `NameBuf::from_uri` for the component. A text with a slash has the
-/// fault `BadUri`. Without a slash, the fault is `BadDigestLength` if the text after `1=` or `2=`
-/// encodes a value that does not have 32 octets. Every other fault of the text is `BadUri`. Returns
-/// `Memory` only if the text reads as a component.
+/// Returns `BadUri` for a text with a slash. Without a slash, the fault is `BadDigestLength` if the
+/// text after `1=` or `2=` encodes a value that does not have 32 octets. Every other fault of the
+/// text is `BadUri`. Returns `Memory` only if the text reads as a component.
 pub fn component_from_uri(alloc: Global, text: &str) -> Result<(u16, Vec<u8>), NameFault>
     // The text reads as the returned component.
     ensures found { IfOk result
