@@ -4,9 +4,10 @@ ghost use Rattle.hmac_keys.specs.declared.fault.KeyFault.TheVariants as faults;
 use std::alloc::AllocFailed;
 use thiserror::Error;
 
-/// Why a key file is refused: the fault of its first faulty line. Line numbers count all lines from
-/// 1, including skipped lines. If a line has several faults, the first one in the order of this
-/// enum is reported. `Memory` is returned only if the file has no fault.
+/// Why a key file is refused: `BadLine(0)` if the file is not UTF-8, otherwise the fault of its
+/// first faulty line. Line numbers count all lines from 1, including skipped lines. If a line has
+/// several faults, the first one in the order of this enum is reported. `Memory` is returned only
+/// if the file has no fault.
 #[derive(Clone, Copy, Debug, PartialEq, Eq, Error)]
 pub enum KeyFault {
     /// The line does not consist of the URI of a nonempty name, a space, and 1 to 256 octets in

@@ -30,7 +30,8 @@ impl Key {
     ghost use Rattle.hmac_keys.specs.KeyReading.{key_in};
     ghost use Rattle.hmac_keys.specs.LineFault.{IsLineFault};
 
-    /// Reads the key in line `number`, which is not skipped.
+    /// Reads the key in line `number`, which is not skipped. Returns `BadLine` if the line has no
+    /// key, and `Memory` if memory runs out.
     fn read(alloc: Global, number: u64, line: &str) -> Result<Key, KeyFault>
         ensures { MatchResult result (λ key. key_in line.now ≡ Some (key.name, key.hmac))
             (IsLineFault number (key_in line.now)) }
@@ -49,7 +50,7 @@ impl Key {
     }
 }
 
-/// At most 256 keys with different names.
+/// A collection of at most 256 keys. No two of them have the same name.
 #[derive(Drop)]
 pub struct KeyBook {
     keys: Vec<Key>,
@@ -120,8 +121,8 @@ impl KeyBook {
         read_keys(alloc, text)
     }
 
-    /// Returns the keys in the lines, or the first fault of the lines, or `Memory` if memory runs
-    /// out first.
+    /// Returns the keys in the lines of `text`, or the first fault of the lines, or `Memory` if
+    /// memory runs out first.
     fn read_lines(alloc: Global, text: &str) -> Result<KeyBook, KeyFault>
         ensures { MatchResult result (λ book. keys_in text.now ≡ Ok book)
             (IsFaultOf (keys_in text.now)) }
@@ -138,7 +139,8 @@ impl KeyBook {
         Ok(book)
     }
 
-    /// Adds the key of line `number`, if the line is not skipped.
+    /// Adds the key of line `number`, if the line is not skipped. Returns `BadLine`, `TwiceNamed`
+    /// or `TooMany` if the line is faulty, and `Memory` if memory runs out.
     fn add_line(&mut self, alloc: Global, number: u64, line: &str) -> Result<(), KeyFault>
         ensures { MatchResult result (λ _. after_line number self.old line.now ≡ Ok self.new)
             (IsFaultOf (after_line number self.old line.now)) }
@@ -151,7 +153,7 @@ impl KeyBook {
     }
 
     /// Adds the key of line `number`. Returns `TwiceNamed` if the book has a key with the same
-    /// name, and `TooMany` if the book already has 256 other keys.
+    /// name, `TooMany` if the book already has 256 other keys, and `Memory` if memory runs out.
     fn add(&mut self, number: u64, key: Key) -> Result<(), KeyFault>
         ensures { let next = with_key number self.old (key.name, key.hmac) in
             MatchResult result (λ _. next ≡ Ok self.new) (IsFaultOf next) }
@@ -208,7 +210,7 @@ impl KeyBook {
     }
 }
 
-/// Reads the keys in the lines. If memory runs out, the lines are read once more without
+/// Reads the keys in the lines of `text`. If memory runs out, the lines are read once more without
 /// allocation, so that a fault in the lines is reported instead of `Memory`.
 fn read_keys(alloc: Global, text: &str) -> Result<KeyBook, KeyFault>
     ensures { MatchResult result (λ book. keys_in text.now ≡ Ok book)
