@@ -32,9 +32,9 @@ starts_small [] = true
 starts_small (c ∷ cs) = nat_lt c.0 PARAMETERS_SHA256_DIGEST
 
 -- `full` begins with `name`. If `can_be_prefix` is false and `full` has components after `name`,
--- the type of the first of these components is at most 1 (the type of an implicit digest). If a Data
--- answers an Interest that has the name `name` and the CanBePrefix `can_be_prefix`, the full name
--- of the Data is near `name`.
+-- the type of the first of these components is at most 1 (the type of an implicit digest). If a
+-- Data answers an Interest that has the name `name` and the CanBePrefix `can_be_prefix`, the full
+-- name of the Data is near `name`.
 abbrev pub is_near : List Field → Bool → List Field → Bool
 is_near name can_be_prefix full =
     begins_with name full && (can_be_prefix || starts_small (drop (length name) full))

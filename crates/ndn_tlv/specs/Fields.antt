@@ -1,6 +1,6 @@
--- Finding fields by their types. `first_of` returns only the first field of a type; it ignores the
--- first element that cannot be read and everything after this element (NFD Management, "Control
--- Command").
+-- Finding fields by their types. `first_of` returns the value of only the first field of a type; it
+-- ignores the first element that cannot be read and everything after this element (NFD Management,
+-- "Control Command").
 use Rattle.std.specs.Prelude.{ℕ, List, [], ◌∷◌, Option, None, Some, Result, Ok, Err, ◌==◌, if◌then◌else◌}
 use Rattle.ndn_tlv.specs.declared.fault.TlvFault.{TlvFault}
 use Rattle.ndn_tlv.specs.Element.{Field}

@@ -36,7 +36,8 @@ fn leading_type(octets: &[u8]) -> Result<(u32, &[u8]), TlvFault>
     Ok((kind as u32, rest))
 }
 
-/// Returns the type and the value of the first element, and the octets after the element.
+/// Returns the type and the value of the first element, and the octets after the element. Returns
+/// the first fault if the octets do not begin with an element.
 #[tactic(auto, unfolding(crate::specs::Reading::element_at))]
 #[inline(always)]
 fn leading_field(octets: &[u8]) -> Result<(u32, &[u8], &[u8]), TlvFault>

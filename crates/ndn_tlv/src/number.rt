@@ -8,7 +8,8 @@ use crate::fault::TlvFault;
 use crate::memory::Memory;
 
 /// Reads the number in the first two octets of `octets`. The octet before `octets` is 253. Returns
-/// the number and the octets after these two octets.
+/// the number and the octets after these two octets. Returns `Truncated` if `octets` has fewer than
+/// two octets, and `NotShortest` if the number is below 253.
 fn two_octets(octets: &[u8]) -> Result<(u64, &[u8]), TlvFault>
     ensures { on_result (λ x. Ok (x.0, x.1.now)) Err result ≡ long_number_at w16 253 octets.now }
 {
