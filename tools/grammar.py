@@ -167,8 +167,8 @@ class Fields:
         return found, places
 
     def comes_next(self, kind, last, found):
-        """Returns whether an element of the type `kind` is a field. `last` is the index in the
-        table of the field that was read last, or -1 if there is none. `found` has all fields that
+        """Returns whether an element of the type `kind` is a field. `last` is the table
+        index of the field that was read last, or -1 if there is none. `found` has all fields that
         were read."""
         return self.order.get(kind, -1) > last and (kind not in self.after or self.after[kind] in found)
 

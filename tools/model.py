@@ -131,9 +131,9 @@ class Node:
     number that the node gives to its list of routes (/localhost/nfd/fib/list). `hops` maps a name
     to the costs of its next hops, by face. `pending` maps the name, the CanBePrefix and the
     MustBeFresh of Interests to their PIT entry. `cached` has pairs of a cached Data and the moment
-    at which it arrived. `last` maps a signer to the time of its last allowed command, and to the
-    last sequence number, if any, of its allowed commands. `wants` maps the name and the CanBePrefix
-    of a pending insert to its deadline. `objects` maps full names to stored Data.
+    at which it arrived. `last` maps a signer to the signature time of its last allowed command, and
+    to the last sequence number, if any, of its allowed commands. `wants` maps the name and the
+    CanBePrefix of a pending insert to its deadline. `objects` maps full names to stored Data.
     """
 
     def __init__(self, rules, keys):
@@ -448,8 +448,8 @@ class Node:
     # The list of routes.
 
     def segment_asked(self, interest):
-        """Returns a pair: the version of the list of routes for which an Interest asks, and the
-        number of the segment. The version is None if the Interest's name has no version: then the
+        """Returns a pair: the version of the list of routes, and the number of the segment, for
+        which an Interest asks. The version is None if the Interest's name has no version: then the
         Interest asks for the current one. Returns None instead of the pair if the Interest does not
         ask for a segment of this list. Raises Beyond if the Interest's name is under the name of
         the list of strategies."""

@@ -30,9 +30,9 @@ def words_of(text):
 
 
 def resident(process, field="VmRSS"):
-    """Returns the resident memory of a process in KiB, or with the field VmHWM its maximum so far.
-    Raises Wrong if the status of the process does not have the field. This is so if the process has
-    exited, and nobody has waited for it yet."""
+    """Returns the resident memory of a process in KiB, or, with the field VmHWM, its maximum so
+    far. Raises Wrong if the status of the process does not have the field. This is so if the
+    process has exited, and nobody has waited for it yet."""
     with open(f"/proc/{process.pid}/status", encoding="ascii") as status:
         for line in status:
             if line.startswith(field + ":"):
