@@ -1,4 +1,5 @@
-"""An independent packet reader, for `damaged`. The function `read` decodes a packet, or raises its first fault.
+"""An independent packet reader, for `damaged`. The function `read` decodes a packet, or raises the packet's first
+fault.
 
 The tables of fields follow NDN Packet Format 0.3 and NDNLPv2. Where these standards leave a choice,
 the tables follow `docs/DECISIONS.md` ("The profile"). The module shares no code with the node's
@@ -11,18 +12,18 @@ reader.
    (BadField).
 3. An Interest or a Data has at most 8,800 octets (TooLong).
 4. An Interest or a Data begins with a Name, and the Name of an Interest is not empty (NoName). If the first element
-   cannot be read, the fault is Tlv.
-5. The elements inside, from left to right: each element can be read (Tlv), is allowed at its place
-   (CriticalUnknown, or LpField in a link packet), and has a valid value (mostly BadField; LpField
-   for a PIT token; Fragmented for a FragIndex or FragCount that is too large). The elements inside
-   a MetaInfo, a SignatureInfo and a Nack are checked in the same way. A missing SignatureType is
-   reported at the end of its SignatureInfo (BadField).
+   inside the packet cannot be read, the fault is Tlv.
+5. The elements inside the outermost element, from left to right: each element can be read (Tlv), is allowed at its
+   place (CriticalUnknown, or LpField in a link packet), and has a valid value (mostly BadField; LpField for a PIT
+   token; Fragmented for a FragIndex or FragCount that is too large). The elements inside a MetaInfo, a SignatureInfo
+   and a Nack are checked in the same way. A missing SignatureType is reported after the last element of the
+   SignatureInfo (BadField).
 6. No other mandatory field is missing (NoNonce in an Interest, BadField in a Data). In a link
    packet, a Nack needs a Fragment (BadField).
 7. In an Interest, the digest of the parameters is valid (DigestMissing, DigestWrong, DigestWithout).
 
-The value of a Fragment is checked by the steps 2 to 7. It must be an Interest or a Data, or, if the
-link packet has a Nack, an Interest (BadField).
+The value of a Fragment is checked by the steps 2 to 7. It must be an Interest or a Data. If the link packet has a Nack,
+it must be an Interest. If one of these two conditions is not met, the fault is BadField.
 """
 
 import collections
@@ -135,15 +136,14 @@ def locator(value):
 
 
 class Fields:
-    """A list of fields in a fixed order, each of them at most once.
+    """A list of fields in a fixed order, in which each field occurs at most once.
 
-    `table` maps the types of the fields, in this order, to the readers for their values. `after` maps a type to the
-    type of a field that must precede it. `needed` has the types of the mandatory fields.
+    `table` maps the types of the fields, in this order, to the readers for their values. `after` maps the type of a
+    field to the type of the field that must precede it. `needed` has the types of the mandatory fields.
 
-    An element is a field if its type is in the table, after the type of the field that was read
-    last, and if the field that must precede it according to `after`, if any, has been read. Any
-    other element is ignored if its type is in `ignored`, or is even and at least 32. Otherwise the
-    fault is CriticalUnknown.
+    An element is a field if these two conditions are met: its type is in the table, after the type of the field (if
+    any) that was read last; and the field (if any) that must precede it according to `after` has been read. Any other
+    element is ignored if its type is in `ignored`, or is even and at least 32. Otherwise the fault is CriticalUnknown.
     """
 
     def __init__(self, table, after=(), ignored=(), needed=()):
@@ -230,7 +230,7 @@ def begins_with_name(value, may_be_empty):
 
 def signature_of(info, value, covered):
     """Returns the Signature with the fields `info` of its SignatureInfo, the octets `value` of the
-    signature, and the octets `covered` that it covers."""
+    signature, and the octets `covered` that the signature covers."""
     return Signature(info[27], info.get(28), info.get(40), info.get(42), value, covered)
 
 
@@ -252,7 +252,7 @@ def read_interest(outer, whole):
         raise Fault("DigestWithout")
     signature = None
     if 46 in found:
-        # The signature covers the components of the name without the digest, and the octets from the start of the
+        # The signature covers the components of the name except the digest, and the octets from the start of the
         # ApplicationParameters to the start of the InterestSignatureValue. If the digest is not the last component,
         # `covered` is None.
         parts = outer.value[places[PARAMETERS][0] : places[46][0]]

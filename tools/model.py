@@ -8,8 +8,8 @@ lists, and reads packets with `grammar`.
 - The only commands are `fib/add-nexthop`, `fib/remove-nexthop` and those of the repository.
 - The cache and the PIT have no limits.
 
-The model raises `Beyond` for a face that cannot be opened, for any other allowed command, and for an Interest for
-the list of strategies.
+The model raises `Beyond` for a face that cannot be opened, for an allowed command that is not listed above, and for an
+Interest for the list of strategies.
 """
 
 import hashlib
@@ -83,7 +83,8 @@ class Asked:
 
 def wrapped(packet, token, reason=None):
     """Returns the octets to send to a face. `token` is the PIT token of the face's Interest, or None. `reason` is the
-    reason of a Nack, or None for a Data. If both are None, the packet is sent bare, otherwise in a link packet."""
+    reason of a Nack, or None for a Data. If `token` and `reason` are both None, the packet is sent bare, otherwise in a
+    link packet."""
     if token is None and reason is None:
         return packet
     headers = [] if token is None else [p.tlv(98, token)]
@@ -414,7 +415,8 @@ class Node:
 
     def repository(self, named, nonce):
         """Applies an allowed command to the repository. Returns the status, the text and the count of the reply, and a
-        list. The list has the face and the octets of the Interest that the node sends for the Data, or is empty."""
+        list. The list has one pair, the face and the octets of the Interest that the node sends for the Data, or is
+        empty."""
         bad = (400, "bad parameters", 0, [])
         if len(named) != 3:
             return bad
@@ -448,11 +450,10 @@ class Node:
     # The list of routes.
 
     def segment_asked(self, interest):
-        """Returns a pair: the version of the list of routes, and the number of the segment, for
-        which an Interest asks. The version is None if the Interest's name has no version: then the
-        Interest asks for the current one. Returns None instead of the pair if the Interest does not
-        ask for a segment of this list. Raises Beyond if the Interest's name is under the name of
-        the list of strategies."""
+        """Returns a pair for an Interest that asks for a segment of the list of routes: the version of the list, and
+        the number of the segment. The version is None if the Interest's name has no version: then the Interest asks for
+        the current version. Returns None instead of the pair if the Interest does not ask for a segment of this list.
+        Raises Beyond if the Interest's name is under the name of the list of strategies."""
         name, of_routes = interest.name, p.name("/localhost/nfd/fib/list")
         if g.begins(name, p.name("/localhost/nfd/strategy-choice/list")):
             raise Beyond("the list of strategies")
@@ -471,9 +472,8 @@ class Node:
         return (numbers[0] if numbers else None), 0
 
     def segment(self, version, k):
-        """Returns the octets of the Data with segment `k` of the list of routes. Returns None if
-        the list has no such segment, or if `version` is neither None nor the version of the
-        list."""
+        """Returns the octets of the Data with segment `k` of the list of routes. Returns None if the list has no such
+        segment, or if `version` is neither None nor the current version of the list."""
         if version not in (None, self.version):
             return None
         text = b""

@@ -65,10 +65,9 @@ class Key:
 
 
 def signature_info(kind, key, time=None, number=None):
-    """Encodes a SignatureInfo (`kind` 22) or an InterestSignatureInfo (`kind` 44). The signature
-    type is HmacWithSha256 with the name of `key` in the KeyLocator, or DigestSha256 if `key` is
-    None. `time` is the SignatureTime, and `number` is the SignatureSeqNum. If one of them is None,
-    its field is left out."""
+    """Encodes a SignatureInfo (`kind` 22) or an InterestSignatureInfo (`kind` 44). The signature type is HmacWithSha256
+    with the name of `key` in the KeyLocator, or DigestSha256 if `key` is None. `time` is the SignatureTime, and
+    `number` is the SignatureSeqNum. If `time` or `number` is None, its field is left out."""
     parts = [integer(27, 0 if key is None else 4)]
     if key is not None:
         parts.append(tlv(28, tlv(7, *key.name)))

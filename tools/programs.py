@@ -1,6 +1,6 @@
 """Starts the programs under test, writes scripts to nodes, checks the verdicts, and stops the programs.
 
-The programs damaged, dearest, flood, misuse, refused and soak share this module.
+The tools damaged, dearest, flood, misuse, refused and soak share this module.
 """
 
 import hashlib
@@ -30,9 +30,9 @@ def words_of(text):
 
 
 def resident(process, field="VmRSS"):
-    """Returns the resident memory of a process in KiB, or, with the field VmHWM, its maximum so
-    far. Raises Wrong if the status of the process does not have the field. This is so if the
-    process has exited, and nobody has waited for it yet."""
+    """Returns the resident memory of a process in KiB, or, with the field VmHWM, the maximum of this memory so far.
+    Raises Wrong if the status of the process does not have the field. The field is missing if the process has exited,
+    and nobody has waited for the process yet."""
     with open(f"/proc/{process.pid}/status", encoding="ascii") as status:
         for line in status:
             if line.startswith(field + ":"):
@@ -61,9 +61,9 @@ class Reader(threading.Thread):
     `expected` has one entry for each event, in the form that `fits` takes. The caller must append the entry before it
     writes the event. `came` is the number of verdicts so far, and `counts` maps each verdict to the number of times
     that it arrived. The thread appends a message to `wrong` for each verdict that is not expected or has a wrong event
-    number, up to 20 messages. If `keeps` is true, it appends each verdict to `kept`. `sum` is the SHA-256 of the
-    output. At the verdicts 1, 1001, 2001 and so on, the thread appends to `marks` the SHA-256 of all output before this
-    verdict. So a caller can find the first block of 1000 events in which the outputs of two programs differ.
+    number, up to 20 messages. If `keeps` is true, the thread appends each verdict to `kept`. `sum` is the SHA-256 of
+    the output. At the verdicts 1, 1001, 2001 and so on, the thread appends to `marks` the SHA-256 of all output before
+    this verdict. So a caller can find the first block of 1000 events in which the outputs of two programs differ.
     """
 
     keeps = False
@@ -104,8 +104,8 @@ class Reader(threading.Thread):
                 self.news.notify_all()
 
     def wait(self, count, seconds=120):
-        """Waits until `count` verdicts in total have arrived. Raises Wrong if they do not arrive within `seconds`, or
-        if the output ends before they arrive."""
+        """Waits until `count` verdicts have arrived since the start of the thread. Raises Wrong if they do not arrive
+        within `seconds`, or if the output ends before they arrive."""
         with self.news:
             self.waited = count
             if not self.news.wait_for(lambda: self.done or self.came >= count, seconds):

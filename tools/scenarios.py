@@ -1,4 +1,4 @@
-"""Node scripts of 10 to 175 events, for `refused`. All scripts but the random ones have the verdicts that the
+"""Node scripts of 10 to 175 events, for `refused`. Each script except the random ones also has the verdicts that the
 documents require."""
 
 import random
@@ -28,9 +28,9 @@ class Scenario:
     order. In a random script, `expected` has None for each event.
 
     `loses` has the ways in which the cache may lose Data. Each way is a list of lines. If these lines are inserted
-    after an event, they remove Data from the cache, and do not change the later answers of the script otherwise.
-    `apart` means that no answer depends on what the cache did when it answered earlier Interests, and that each Data
-    that may be cached arrives directly after the Interest that it answers.
+    after an event, they remove Data from the cache, and change the later answers to the script in no other way. `apart`
+    means that no answer depends on what the cache did when it answered earlier Interests, and that each Data that may
+    be cached arrives directly after the Interest that it answers.
 
     `now` is the moment of the next event, and `time` is the signature time of the last command.
     """
@@ -67,8 +67,8 @@ class Scenario:
         self.put(f"in {face} {self.now} {packet.hex()}", verdict, *faces)
 
     def ask(self, face, of, *faces, **fields):
-        """Adds an Interest that arrives on `face`, and returns it. `faces` are the faces to which it is forwarded. If
-        the Interest is answered or returned in a Nack, `faces` is `face` itself."""
+        """Adds an Interest that arrives on `face`, and returns it. `faces` are the faces to which the Interest is
+        forwarded. If the Interest is answered or returned in a Nack, `faces` is `face` itself."""
         packet = p.interest(of, self.nonce(), **fields)
         self.comes(face, packet, "passed", *faces)
         return packet
@@ -81,8 +81,8 @@ class Scenario:
         return packet
 
     def order(self, verb, of, face=None, status=200, **fields):
-        """Adds an event with a command to the node, and returns the command. It arrives on face 1
-        and is allowed. `status` is the status of the reply."""
+        """Adds an event with a command to the node, and returns the command. The command arrives on face 1 and is
+        allowed. `status` is the status of the reply."""
         self.time += 1
         packet = p.command(p.node_name(verb, of, face, **fields), self.nonce(), OPERATOR, self.time)
         self.comes(1, packet, f"allowed {status} ops", 1)
@@ -94,9 +94,8 @@ class Scenario:
             self.order("fib/add-nexthop", of, face)
 
     def store(self, verb, of, status, *faces, **fields):
-        """Adds an event with a command to the repository, and returns the command. It arrives on
-        face 1 and is allowed. `faces` are the faces to which the node sends its own Interest for
-        the Data."""
+        """Adds an event with a command to the repository, and returns the command. The command arrives on face 1 and is
+        allowed. `faces` are the faces to which the node sends its own Interest for the Data."""
         self.time += 1
         packet = p.command(p.repository_name(verb, of, **fields), self.nonce(), SECOND, self.time)
         self.comes(1, packet, f"allowed {status} repo-ops", 1, *faces)
@@ -122,9 +121,9 @@ class Scenario:
         self.put(f"rules {self.now} {files[0]} {files[1]}", "passed")
 
     def may_lose_its_data(self):
-        """Adds to `loses` a way in which a cache for one Data loses it: another Data takes its place. The lines of this
-        way do not change the version of the lists. The lines need the faces 60 and 61, and a route through face 60. So
-        this method first opens these faces and adds the route. Face 1 must be open."""
+        """Adds to `loses` a way in which a cache for one Data loses this Data: another Data takes its place. The lines
+        of this way do not change the version of the lists. The lines need the faces 60 and 61, and a route through face
+        60. So this method first opens these faces and adds the route. Face 1 must be open."""
         self.up(60, 61)
         other = p.name("/other")
         self.route(other, 60)
@@ -196,10 +195,9 @@ def commands_and_their_times():
 
 
 def deadlines():
-    """Tests deadlines of pending Interests and of a pending insert, each with two events. The
-    moment of the first event is the deadline or later. The moment of the second event is before the
-    deadline, and its answer shows that the Interest or insert has expired. Without the first event
-    the Interest or insert would not have expired."""
+    """Tests deadlines of pending Interests and of a pending insert, each with two events. The moment of the first event
+    is the deadline or later. The moment of the second event is before the deadline, and the answer to this event shows
+    that the Interest or insert has expired. Without the first event the Interest or insert would not have expired."""
     s = Scenario("deadlines")
     s.up(1, 2, 3)
     s.route(A, 2)
