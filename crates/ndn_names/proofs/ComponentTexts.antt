@@ -1,4 +1,4 @@
--- The octets that a component's text encodes are counted before they are decoded.
+-- The octets that a component's text encodes are counted before this text is decoded.
 use Rattle.std.proofs.Common.{◌≡◌, ℕ, suc, ◌+◌, ◌*◌, ◌<◌, ◌≤◌, Bool, true, false, length, get_or, drop, take, arith, List, [], ◌∷◌, ◌++◌, Result, Ok, Err, refl, sym, ap, ◌∙◌, length-append, inl, inr, eq-eqb}
 use Rattle.std.specs.Prelude.{◌&&◌, ◌==◌}
 use Rattle.std.proofs.lemmas.Bool.{cases_eq, ne_eqb}
@@ -47,7 +47,7 @@ pub counted_all : (count : ℕ) (has_periods_only : Bool) (text rest : List ℕ)
     → (octets : List ℕ) × (octets_in text ≡ Ok octets) × (count ≡ length octets) × (has_periods_only ≡ is_periods octets)
 counted_all count has_periods_only text rest h e = (h.0, all_read octets_in h.0 text rest h.1 (ap octets_in e), h.2, h.3)
 
--- the first i pairs of hexadecimal digits read as i octets
+-- the first i pairs of hexadecimal digits in the text read as i octets
 abbrev pub HasPaired : ℕ → List ℕ → Type 0
 HasPaired i text = (items : List ℕ) × HasPut hex_in [] items text (drop (2 * i) text) × (length items ≡ i)
 

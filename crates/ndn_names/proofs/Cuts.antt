@@ -13,8 +13,8 @@ lacks_from_places : (octet : ℕ) (text : List ℕ) → ((i : ℕ) → i < lengt
 lacks_from_places octet [] h = tt
 lacks_from_places octet (o ∷ text) h = (h 0 (omega arith), lacks_from_places octet text (λ i lt. h (suc i) (omega arith)))
 
--- for a piece with an equals sign, `component_in` returns what `typed_in` returns for the text
--- before the first equals sign and the text after it
+-- for a piece with an equals sign, `component_in` returns what `typed_in` returns for the texts
+-- before and after the first equals sign
 pub component_parts : (piece : List ℕ) (front back : Bor (List ℕ)) → IsSplitOnceResult 61 piece (Some (front, back)) → component_in piece ≡ typed_in front.now back.now (kind_of front.now)
 unfolding component_in
 component_parts piece front back split =

@@ -36,7 +36,7 @@ FoundSoFar kind front rest None = NoneOfType kind front
 FoundSoFar kind front rest (Some first) = FirstSoFar kind front rest first
 
 -- n components of `value` have been read, and the octets `rest` are still to be read. `found` is
--- the first of the n components that has type `kind`, or `None`.
+-- the first component of type `kind` among these n components, or `None` if there is none.
 pub record IsFinding (kind n : ℕ) (rest value : List ℕ) (found : Option FirstOfType) : Type 0 where
   pub front : List Field
   pub reads : Reads n rest value front

@@ -25,8 +25,8 @@ named cs others = do
   ds ← others
   Ok (cs ++ ds)
 
--- `count` components `cs`, at most 64, have been read: `text` reads as these components, followed
--- by the components that `rest` reads as
+-- the `count` components `cs` have been read, and `count` is at most 64: `text` reads as these
+-- components, followed by the components that `rest` reads as, or as the fault of `rest`
 abbrev pub HasNamed : ℕ → List Field → List ℕ → List ℕ → Type 0
 HasNamed count cs text rest =
     (count ≡ length cs) × (count ≤ 64) × (components_in 0 (pieces_of text) ≡ named cs (components_in count (pieces_of rest)))
@@ -73,7 +73,7 @@ value_shown text value cs read e short =
     let is = (text_found text cs read).7 in
     is_shown value cs ((short_fields cs is.1 (omega (arith, ap length e)), e), is)
 
--- ---- the first slash after the scheme of a text
+-- ---- the slash at the start of a path, after the optional scheme
 
 pub no_slash : (text path : List ℕ) → path ≡ without_scheme text → ((rest : List ℕ) → path ≢ 47 ∷ rest) → name_in text ≡ Err BadUri
 unfolding name_in

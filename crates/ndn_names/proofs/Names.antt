@@ -135,14 +135,14 @@ components_of-found value cs fits e =
 -- ---- reading a name in a loop
 
 -- Reading `value` as a name gives some components followed by the components that
--- `components_after n` returns for `rest`, or the fault that `components_after n` returns for
--- `rest`.
+-- `components_after n` returns for the elements of `rest`, or the fault that `components_after n`
+-- returns for these elements.
 abbrev pub IsOn : ℕ → List ℕ → List ℕ → Type 0
 IsOn n rest value = (front : List Field) × (name_at value ≡ (components_after n (elements_of rest) >>= λ cs. Ok (front ++ cs)))
 
 -- Reading `value` as a name gives the components `front` followed by the components that
--- `components_after n` returns for `rest`, or the fault that `components_after n` returns for
--- `rest`.
+-- `components_after n` returns for the elements of `rest`, or the fault that `components_after n`
+-- returns for these elements.
 abbrev pub Reads : ℕ → List ℕ → List ℕ → List Field → Type 0
 Reads n rest value front = name_at value ≡ (components_after n (elements_of rest) >>= λ cs. Ok (front ++ cs))
 

@@ -31,8 +31,8 @@ then_assoc Lt p q = refl
 then_assoc Equal p q = refl
 then_assoc Greater p q = refl
 
--- if the first parts of two lists have equal length, the lists compare by their first parts and, if
--- these are equal, by their second parts
+-- if the first parts of two lists have equal length, the lists are compared by their first parts
+-- and, if the first parts are equal, by their second parts
 cmp_joined : (a b x y : List ℕ) → length a ≡ length b → slice_cmp nat_cmp (a ++ x) (b ++ y) ≡ ordering_then (slice_cmp nat_cmp a b) (slice_cmp nat_cmp x y)
 cmp_joined [] [] x y e = refl
 cmp_joined [] (c ∷ b) x y e = absurd (omega arith)
@@ -106,8 +106,9 @@ wide_order w m n p q len =
 abbrev Sorts : List ℕ → List ℕ → ℕ → ℕ → Type 0
 Sorts s t m n = (x y : List ℕ) → slice_cmp nat_cmp (s ++ x) (t ++ y) ≡ ordering_then (nat_cmp m n) (slice_cmp nat_cmp x y)
 
--- Let `a` be the first octet of the encoding of the number `m`, and `b` that of the number `n`. If
--- `m` is less than `n`, and `a` is less than `b`, the encodings have the order of the numbers.
+-- Let `a` be the first octet of the encoding of the number `m`, and `b` the first octet of the
+-- encoding of the number `n`. If `m` is less than `n`, and `a` is less than `b`, the encodings have
+-- the order of the numbers.
 apart_less : (a b : ℕ) (s t : List ℕ) (m n : ℕ) → a < b → m < n → Sorts (a ∷ s) (b ∷ t) m n
 apart_less a b s t m n h k x y = rw (nat_less a b h, nat_less m n k) refl
 

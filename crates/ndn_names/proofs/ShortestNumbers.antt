@@ -1,4 +1,4 @@
--- Which octets are the shortest NonNegativeInteger encoding of their number.
+-- Which octets are the shortest NonNegativeInteger encoding of the number that they encode.
 use Rattle.std.proofs.Common.{◌≡◌, ◌≢◌, ℕ, ◌^◌, ◌<◌, ◌≤◌, cond, eqb, leb, List, Some, Result, Ok, Err, length, refl, sym, ap, ◌∙◌, arith, inl, inr}
 use Rattle.std.specs.Bool.{then_some}
 use Rattle.std.specs.Prelude.{IfOk}

@@ -125,8 +125,8 @@ named_ok : (cs : List Field) (r : Result (List Field) NameFault) (all : List Fie
 named_ok cs (Ok ds) all e = (ds, refl, sym (done_is (cs ++ ds) all e))
 named_ok cs (Err fault) all e = absurd cc
 
--- The name `all` is the components `cs`, then the component `c` that `piece` reads as, and then the
--- components `ds`.
+-- The name `all` consists of the components `cs`, then the component `c` that `piece` reads as, and
+-- then the components `ds`.
 pub record HasNext (cs : List Field) (piece : List ℕ) (all : List Field) : Type 0 where
   pub c : Field
   pub ds : List Field

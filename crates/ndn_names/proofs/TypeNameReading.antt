@@ -61,8 +61,8 @@ tested : {A : Type 0} (b : Bool) (x : A) (others : Option A) (y : A) (P : A → 
 tested true x others y P here after e = let same : x ≡ y = cc in subst P same (here refl)
 tested false x others y P here after e = after e
 
--- if a property holds for each of the types 1, 2, 50, 52, 54, 56 and 58 with its type name, the
--- property holds for every component type that has a type name, with this type name
+-- if a relation holds between each of the types 1, 2, 50, 52, 54, 56 and 58 and its type name, the
+-- relation holds between every component type that has a type name and this type name
 type_name_by_cases : (kind : ℕ) (type_name : List ℕ) (P : ℕ → List ℕ → Type 0)
     → P 1 (codes "sha256digest") → P 2 (codes "params-sha256") → P 50 (codes "seg") → P 52 (codes "off") → P 54 (codes "v") → P 56 (codes "t") → P 58 (codes "seq")
     → type_name_of kind ≡ Some type_name → P kind type_name

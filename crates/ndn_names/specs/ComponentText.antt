@@ -11,7 +11,7 @@ use Rattle.ndn_names.specs.declared.fault.NameFault.TheVariants.{BadUri}
 use Rattle.ndn_names.specs.UriReading.{octets_in, hex_in}
 
 -- The value that the text of a component encodes, or the fault of a text that cannot be decoded. If
--- the text is `Escaped`, only the first `len` octets that it encodes are the value.
+-- the text is `Escaped`, the value is the first `len` of the octets that this text encodes.
 abbrev pub value_in : ℕ → ValueText → Result (List ℕ) NameFault
 value_in len (Plain octets) = Ok octets.now
 value_in len (Escaped text) = do

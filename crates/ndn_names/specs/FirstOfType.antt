@@ -25,10 +25,11 @@ abbrev pub FindsFirst : ℕ → List Field → Option FirstOfType → Type 0
 FindsFirst kind cs None = NoneOfType kind cs
 FindsFirst kind cs (Some first) = IsFirstOfType kind cs first
 
--- `first` is the search result once one more component of the searched type has been read. If a
--- component was found before, `first` is that component, marked as not the only one. If no
--- component was found before, `first` is the new component, marked as the only one, and `is_last`
--- tells whether the new component is the last one.
+-- `first` is the result of a search for the first component of a type, after one more component of
+-- this type has been read. If a component was found before, `first` is the component found before,
+-- marked as not the only one. If no component was found before, `first` is the new component,
+-- marked as the only one, and `is_last` tells whether the new component is the last one of the
+-- name.
 abbrev pub Further : Option FirstOfType → List ℕ → Bool → FirstOfType → Type 0
 Further None value is_last first =
     (first.value.now ≡ value) × (first.is_only ≡ true) × (first.is_last ≡ is_last)

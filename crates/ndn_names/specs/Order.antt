@@ -27,7 +27,8 @@ ComponentLess x y =
     ⊎ ((x.0 ≡ y.0) × (length x.1 < length y.1))
     ⊎ ((x.0 ≡ y.0) × (length x.1 ≡ length y.1) × OctetsLess x.1 y.1)
 
--- the order of names: a proper prefix is less; otherwise the first component that differs decides
+-- the order of names: `a` is less than `b` if `a` is a proper prefix of `b`, or if, after a common
+-- prefix, the next component of `a` is less than the next component of `b`
 abbrev pub Less : List Field → List Field → Type 0
 Less a b = IsProperPrefix a b ⊎ DiffersBelow ComponentLess a b
 

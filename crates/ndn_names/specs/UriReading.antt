@@ -100,8 +100,7 @@ typed_in type_name text None = do
   kind ← type_in type_name
   plain_in kind text
 
--- the octets before the first octet `c`, and the octets after it, or `None` if there is no octet
--- `c`
+-- the octets before and after the first octet that is `c`, or `None` if no octet is `c`
 abbrev pub cut_at : ℕ → List ℕ → Option (List ℕ × List ℕ)
 cut_at c [] = None
 cut_at c (o ∷ text) = if o == c then Some ([], text) else (more o (cut_at c text))

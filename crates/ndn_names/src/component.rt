@@ -49,8 +49,9 @@ pub(crate) fn kind_by_len(kind: u32, len: usize) -> Result<u16, NameFault>
 }
 
 /// Returns the component at the front of the octets, and the octets after it. Returns
-/// `BadComponent` if the octets do not begin with an element or its type is not the type of a
-/// component, and `BadDigestLength` for a digest whose value does not have 32 octets.
+/// `BadComponent` if the octets do not begin with an element, or if the type of the first element
+/// is not from 1 to 65535. Returns `BadDigestLength` for a digest whose value does not have 32
+/// octets.
 #[inline(always)]
 pub(crate) fn first_component<'a>(octets: &'a [u8]) -> Result<(Component<'a>, &'a [u8]), NameFault>
     ensures shorter { IfOk result (λ x. length x.1.now < length octets.now) }

@@ -103,7 +103,7 @@ fn unpadded_len(count: usize, has_periods_only: bool) -> Result<usize, NameFault
 }
 
 /// Returns the number that `text` represents in decimal digits, or `BadUri` if `text` is not a
-/// number below 2^64.
+/// number below 2^64 in decimal digits without a sign.
 fn decimal_number(text: &str) -> Result<u64, NameFault>
     ensures { result ≡ read.number_in text.now }
 {
@@ -116,8 +116,8 @@ fn decimal_number(text: &str) -> Result<u64, NameFault>
     }
 }
 
-/// Returns the type number that `type_name` represents in decimal digits, without leading zeros.
-/// Returns `BadUri` if `type_name` is not such a number below 65536.
+/// Returns the type number from 1 to 65535 that `type_name` represents in decimal digits without
+/// leading zeros. Returns `BadUri` if `type_name` represents no such number.
 fn type_of(type_name: &str) -> Result<u16, NameFault>
     ensures { result ≡ read.type_in type_name.now }
 {
@@ -179,8 +179,9 @@ fn digest_text(kind: u16, text: &[u8]) -> Result<ComponentText<'_>, NameFault>
     })
 }
 
-/// Returns the component that has the type `kind` and, as its value, the number that `text`
-/// represents in decimal digits. Returns `BadUri` if `text` is not a number below 2^64.
+/// Returns the component that has the type `kind` and whose value encodes the number that `text`
+/// represents. Returns `BadUri` if `text` is not a number below 2^64 in decimal digits without a
+/// sign.
 fn number_text(kind: u16, text: &str) -> Result<ComponentText<'_>, NameFault>
     ensures { MatchResult result
         (λ c. (field : Field) × (read.numbered_in kind text.now ≡ Ok field) × IsTextOf field c)

@@ -5,8 +5,8 @@ ghost use Rattle.std.specs.Prelude.{◌≡◌};
 /// ImplicitSha256DigestComponent: SHA-256 of a Data packet, 32 octets.
 pub const IMPLICIT_SHA256_DIGEST: u16 = 1;
 
-/// ParametersSha256DigestComponent: SHA-256 of an Interest's parameters, 32 octets. A component of
-/// type 1 or 2 is a digest.
+/// ParametersSha256DigestComponent: SHA-256 of an Interest's ApplicationParameters and all elements
+/// after them, 32 octets. A component of type 1 or 2 is a digest.
 pub const PARAMETERS_SHA256_DIGEST: u16 = 2;
 
 /// GenericNameComponent: any octets.

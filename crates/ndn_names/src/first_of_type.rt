@@ -43,9 +43,9 @@ pub(crate) fn first_of_type(octets: &[u8], kind: u16) -> Result<Option<FirstOfTy
     Ok(found)
 }
 
-/// Returns the search result after one more component of the searched type has been read. `found`
-/// is the search result before it. `value` is the TLV-VALUE of this component. `is_last` tells
-/// whether this component is the last one of the name.
+/// Returns the result of a search for the first component of a type, after one more component of
+/// this type has been read. `found` is the search result before this component. `value` is the
+/// TLV-VALUE of this component. `is_last` tells whether this component is the last one of the name.
 #[inline(always)]
 fn with_another<'a>(
     found: Option<FirstOfType<'a>>,

@@ -11,8 +11,8 @@ ghost use Rattle.ndn_names.specs.Name.{IsNameValue};
 ghost use Rattle.ndn_names.specs.Order.{Less, name_cmp};
 
 /// Law: `name_cmp` returns `Less` exactly if the first name is less than the second name in
-/// canonical order. It returns `Equal` exactly if the names are equal, and `Greater` exactly if the
-/// second name is less than the first name.
+/// canonical order. `name_cmp` returns `Equal` exactly if the names are equal, and `Greater`
+/// exactly if the second name is less than the first name.
 pub fn comparison_tells_the_order()
     ensures less { (a b : List Field) → (name_cmp a b ≡ answers.Less) ↔ Less a b }
     ensures equal { (a b : List Field) → (name_cmp a b ≡ answers.Equal) ↔ (a ≡ b) }

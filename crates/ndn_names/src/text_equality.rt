@@ -41,7 +41,7 @@ fn number_octets(value: ValueText<'_>) -> [u8; 8]
     }
 }
 
-/// Returns a text that is not a `Number`. The octets that it encodes begin with the component's
+/// Returns a text that is not a `Number` and that encodes octets beginning with the component's
 /// value. If the value is a number, `number` has to begin with the octets of the value.
 fn spelled_out<'a>(component: ComponentText<'a>, number: &'a [u8; 8]) -> ValueText<'a>
     requires { IsNumberIn number.now component.value }
@@ -84,7 +84,7 @@ fn first_said(value: ValueText<'_>) -> Option<(u8, ValueText<'_>)>
     }
 }
 
-/// Returns whether the first `len` octets of two values are equal.
+/// Returns whether two texts encode the same first `len` octets.
 fn octets_are_equal(len: usize, a: ValueText<'_>, b: ValueText<'_>) -> bool
     ensures { (x y : List ℕ) → SaysFirst a.entry x → SaysFirst b.entry y → len ≡ length x
         → len ≡ length y → (IsTrue result ↔ (x ≡ y)) }

@@ -13,9 +13,9 @@ use crate::name_buf::NameBuf;
 use ndn_tlv::put_number;
 use std::alloc::Global;
 
-/// Spare capacity for a name, in octets. A component in a TLV-VALUE usually has two octets in
-/// addition to its value, for type and length. A component in URI text may have only one additional
-/// octet, the slash.
+/// Spare capacity for a name, in octets. The TLV-VALUE of a name may be longer than its URI text:
+/// in the TLV-VALUE, a component usually has two octets in addition to its value, for type and
+/// length; in the text, a component may have only one additional octet, the slash.
 const SPARE: usize = 16;
 
 /// Reads the URI text of one component, for example `A` or `seg=5`. Returns the type and the value

@@ -9,9 +9,9 @@ use Rattle.ndn_tlv.specs.declared.memory.Memory.{Memory}
 use Rattle.ndn_tlv.specs.Writing.{Puts}
 use Rattle.ndn_tlv.proofs.Lengths.{begins_more}
 
--- A call satisfies `Puts` under three conditions. The call appends `octets` if it succeeds, and
--- appends nothing if it fails. The call succeeds whenever the capacity suffices. The call does not
--- reduce the capacity.
+-- A call satisfies `Puts` if three conditions hold. The call appends `octets` if it succeeds, and
+-- appends nothing if it fails. The call succeeds if the vector has capacity for `octets`. The call
+-- does not reduce this capacity.
 pub puts_one : (old new : Vec ℕ) (result : Result (Unit {0}) Memory) (octets : List ℕ)
     → OnOk result (new.items ≡ old.items ++ octets) → OnErr result (new.items ≡ old.items)
     → (vec_len old + length octets ≤ vec_capacity old → IsOk result)

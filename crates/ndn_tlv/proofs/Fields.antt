@@ -1,4 +1,4 @@
--- Facts about octets from which an element, or successive elements, are read.
+-- Facts about octets from which one element or several successive elements are read.
 use Rattle.std.proofs.Common.{◌≡◌, ◌≢◌, ℕ, zero, suc, ◌-◌, ◌^◌, ◌<◌, ◌≤◌, ◌⊎◌, Bool, true, false, cond, ltb, eqb, List, [], ◌∷◌, ◌++◌, length, take, drop, map, Result, Ok, Err, refl, sym, ap, subst, ◌∙◌, append_assoc, arith, inl, inr}
 use Rattle.std.specs.List.{flat_map, AllByRecursion}
 use Rattle.std.specs.Int.{Width, w16, w32, w64, byte_len, from_be_bytes}
@@ -208,7 +208,8 @@ same_next : (r : Result (Field × List ℕ) TlvFault) (k g : List ℕ → List I
 same_next (Ok x) k g h = ap (λ (l : List Item). Ok x.0 ∷ l) (h x refl)
 same_next (Err f) k g h = refl
 
--- `elements_within` returns the same list for all limits that are at least the number of octets
+-- for the octets `bytes`, `elements_within` returns the same list with every limit that is at least
+-- the number of octets in `bytes`
 within_same : (n m : ℕ) (bytes : List ℕ) → length bytes ≤ n → length bytes ≤ m → elements_within n bytes ≡ elements_within m bytes
 unfolding elements_within
 within_same zero zero bytes p q = refl
@@ -306,7 +307,7 @@ elements_exact bytes fields p = ap elements_of p.1 ∙ elements_again fields p.0
 pub elements_same : (fs gs : List Field) → AllByRecursion IsField fs → AllByRecursion IsField gs → flat_map element fs ≡ flat_map element gs → fs ≡ gs
 elements_same fs gs p q e = reads_same fs gs (sym (elements_again fs p) ∙ ap elements_of e ∙ elements_again gs q)
 
--- ---- functions that return the same as `element_at`
+-- ---- functions whose results, as plain data, are those of `element_at`
 
 abbrev pub seen : ℕ → List ℕ → List ℕ → Result (Field × List ℕ) TlvFault
 seen kind value rest = Ok ((kind, value), rest)

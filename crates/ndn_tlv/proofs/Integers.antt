@@ -78,7 +78,7 @@ nni_at-one : (n : ℕ) → nni_at (n ∷ []) ≡ Ok n
 unfolding nni_at
 nni_at-one n = refl
 
--- `nni_at` reads each NonNegativeInteger encoding as its number
+-- `nni_at` reads each NonNegativeInteger encoding as the encoded number
 pub nni_again : (bytes : List ℕ) (n : ℕ) → IsNni bytes n → nni_at bytes ≡ Ok n
 nni_again bytes n (inl p) = ap nni_at p.1 ∙ nni_at-one n
 nni_again bytes n (inr (inl p)) = ap nni_at p.1 ∙ nni_at-two n ∙ ap integer (wide16.again n p.0)
@@ -155,7 +155,7 @@ shortest_is_least n text (inr (inr (inr p))) = omega (arith, length-shortest_eig
 pub shortest_again : (n : ℕ) → n < 2 ^ 64 → nni_at (shortest_nni n) ≡ Ok n
 shortest_again n h = nni_again (shortest_nni n) n (nni_of_shortest n h)
 
--- ---- functions that return the same as `nni_at`
+-- ---- functions that return the result of `nni_at`
 
 pub nni_of-found : (bytes : List ℕ) (r : Result ℕ TlvFault) → IsBytes bytes → r ≡ nni_at bytes → IfOk r (IsNni bytes)
 nni_of-found bytes (Ok n) fits e = nni_found bytes n fits (sym e)

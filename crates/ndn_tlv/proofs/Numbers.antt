@@ -187,8 +187,8 @@ form_beats text n (inr (inr (inr f))) =
       | inr a ↦ beats_same text n (f.1 ∙ sym (spelling_nine n a))
     ]
 
--- if `Spells` relates octets to a number, this number is below 2^64, and `spelling` of this number
--- is these octets
+-- if octets are the shortest encoding of a number (`Spells`), this number is below 2^64, and
+-- `spelling` returns these octets for this number
 pub Spells-is : (text : List ℕ) (n : ℕ) → Spells text n → (n < 2 ^ 64) × (text ≡ spelling n)
 Spells-is text n s =
     let below = form_below text n s.0 in
@@ -261,8 +261,8 @@ long_found w limit wide least bytes n rest fits e =
     let least_is : least ≤ v = ltb-false _ _ h.0 in
     (subst (λ (m : ℕ). bytes ≡ to_be_bytes w m ++ rest) is.0 (subst (λ (r : List ℕ). bytes ≡ to_be_bytes w v ++ r) is.1 front.1), rw (← is.0) front.0, rw (← is.0) least_is)
 
--- Why no number can be read from the octets after a first octet of 253, 254 or 255. The fault is
--- `Truncated` if octets are missing, or `NotShortest` if the number is below `least`.
+-- The reason why no number can be read from octets that follow a first octet of 253, 254 or 255.
+-- The fault is `Truncated` if octets are missing, or `NotShortest` if the number is below `least`.
 abbrev LongFault : Width → ℕ → ℕ → List ℕ → TlvFault → Type 0
 LongFault w limit least bytes f =
     ((f ≡ Truncated) × ((missing : List ℕ) × (n : ℕ) × (missing ≢ []) × (n < limit) × (bytes ++ missing ≡ to_be_bytes w n)))

@@ -1,6 +1,6 @@
--- Finding fields by their types. `first_of` returns the value of only the first field of a type; it
--- ignores the first element that cannot be read and everything after this element (NFD Management,
--- "Control Command").
+-- Finding fields by their types. `first_of` returns the value of the first field of a type, even if
+-- later fields have the same type. `first_of` ignores the first element that cannot be read, and
+-- everything after this element (NFD Management, "Control Command").
 use Rattle.std.specs.Prelude.{ℕ, List, [], ◌∷◌, Option, None, Some, Result, Ok, Err, ◌==◌, if◌then◌else◌}
 use Rattle.ndn_tlv.specs.declared.fault.TlvFault.{TlvFault}
 use Rattle.ndn_tlv.specs.Element.{Field}
@@ -15,8 +15,8 @@ first_of kind [] = None
 first_of kind (Err fault ∷ es) = None
 first_of kind (Ok e ∷ es) = if e.0 == kind then Some e.1 else first_of kind es
 
--- the value of the element if the list has exactly one item and this item is an element of type
--- `kind`, otherwise `None`
+-- if the list has exactly one item, and this item is an element of type `kind`, the value of this
+-- element; otherwise `None`
 abbrev pub single : ℕ → Elements → Option (List ℕ)
 single kind [] = None
 single kind (Err fault ∷ es) = None

@@ -2,10 +2,10 @@
 use Rattle.std.specs.Prelude.{◌≡◌, ℕ, ◌<◌, ◌≤◌, ◌^◌, ◌⊎◌, List, [], ◌∷◌, length, nat_lt, if◌then◌else◌}
 use Rattle.std.specs.Int.{w16, w32, w64, to_be_bytes}
 
--- The text encodes n as a VAR-NUMBER, which need not be the shortest. There are four forms: one
--- octet for a number below 253; an octet 253, then 2 octets for a number below 2^16; an octet 254,
--- then 4 octets for a number below 2^32; an octet 255, then 8 octets for a number below 2^64. The
--- octets of a number are in network order.
+-- The text encodes n as a VAR-NUMBER, not necessarily in the shortest form. There are four forms:
+-- one octet for a number below 253; an octet 253, then 2 octets for a number below 2^16; an octet
+-- 254, then 4 octets for a number below 2^32; an octet 255, then 8 octets for a number below 2^64.
+-- The octets of a number are in network order.
 abbrev pub IsForm : List ℕ → ℕ → Type 0
 IsForm text n =
     ((n < 253) × (text ≡ n ∷ []))

@@ -117,7 +117,7 @@ ElementFault bytes TypeTooLarge =
     (text rest : List ℕ) × (kind : ℕ) × (bytes ≡ text ++ rest) × Spells text kind × (2 ^ 32 ≤ kind)
 ElementFault bytes BadInteger = ⊥
 
--- The text is the valid elements `fields`, followed by at least one more octet. `fault` is the
+-- The text consists of the valid elements `fields` and at least one more octet. `fault` is the
 -- reason why no element can be read after `fields`.
 abbrev pub EndsInFault : List ℕ → List Field → TlvFault → Type 0
 EndsInFault text fields fault =

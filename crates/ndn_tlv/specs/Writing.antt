@@ -21,8 +21,8 @@ abbrev pub flag : ℕ → Bool → List Field
 flag kind true = (kind, []) ∷ []
 flag kind false = []
 
--- a list of one field of type `kind` with the shortest NonNegativeInteger encoding of n, or the
--- empty list if n is absent
+-- a list of one field of type `kind` whose value is the shortest NonNegativeInteger encoding of n,
+-- or the empty list if n is absent
 abbrev pub number : ℕ → Option ℕ → List Field
 number kind n = optional kind (option_map shortest_nni n)
 

@@ -70,7 +70,7 @@ pub fn first_element<'a>(octets: &'a [u8]) -> Result<(Element<'a>, &'a [u8]), Tl
     ensures exact { on_result (λ x. Ok ((x.0.kind, x.0.value.now), x.1.now)) Err result
         ≡ element_at octets.now }
     // If the octets are not empty, the returned element or fault is the first item that
-    // `elements_of` returns for them.
+    // `elements_of` returns for these octets.
     ensures walk { MatchResult result
         (λ x. elements_of octets.now ≡ Ok (x.0.kind, x.0.value.now) ∷ elements_of x.1.now)
         (λ e. octets.now ≢ [] → elements_of octets.now ≡ Err e ∷ []) }

@@ -22,8 +22,8 @@ pub fn single_element(octets: &[u8], kind: u32) -> Option<&[u8]>
     None
 }
 
-/// Returns the value of the first element of type `kind`, or `None` if the search finds no such
-/// element. The search ends at the first element that cannot be read.
+/// Reads elements from left to right, up to the first element that cannot be read. Returns the
+/// value of the first element of type `kind` that is read, or `None` if no such element is read.
 pub fn first_field(octets: &[u8], kind: u32) -> Option<&[u8]>
     ensures exact { option_map (λ v. v.now) result ≡ first_of kind (elements_of octets.now) }
     ensures short { IfSome result (λ v. length v.now ≤ length octets.now) }
