@@ -63,7 +63,7 @@ among_at name (first ∷ keys) zero key lt is e =
     inl (ap (λ (k : Key). (k.name, k.hmac)) (sym is) ∙ ap (λ (n : List Field). (n, key.hmac)) (one_name key.name name e))
 among_at name (first ∷ keys) (suc i) key lt is e = inr (among_at name keys i key (omega arith) is e)
 
--- ---- one more key is added
+-- ---- keys followed by one more key, and keys with a given name
 
 pub has_name_more : (name : List Field) (keys : List NamedKey) (key : NamedKey) → has_name name (keys ++ key ∷ []) ≡ (has_name name keys || is_eq (name_cmp key.0 name))
 has_name_more name [] key = or_nothing (is_eq (name_cmp key.0 name))

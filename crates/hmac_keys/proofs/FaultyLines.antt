@@ -73,7 +73,7 @@ faulty n before (line ∷ lines) keys fault number are apart few e =
 pub first_fault : (text : List ℕ) (fault : KeyFault) → keys_in text ≡ Err fault → FirstFault text fault
 first_fault text fault e = faulty 1 [] (lines_of text) [] fault refl refl tt (omega arith) e
 
--- ---- the fault that is in the lines is reported
+-- ---- if lines have a fault, reading the lines returns this fault
 
 told_at : (lines : List (List ℕ)) (n : ℕ) (line : List ℕ) (keys : List NamedKey) (fault : KeyFault) → IsReached lines n line keys → after_line n keys line ≡ Err fault → keys_from 1 [] lines ≡ Err fault
 unfolding keys_from

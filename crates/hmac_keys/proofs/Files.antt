@@ -117,7 +117,7 @@ keys_read n (line ∷ lines) keys all e apart few =
           key_before line lines keys all added.key kept added.read (keys_read (n + 1) lines more all rest (apart_more keys added.key apart added.other) short)
     ]
 
--- if all keys of a list have a property, each single key in the list has it
+-- if all keys of a list have a property, each single key in the list has this property
 all_at : (P : NamedKey → Type 0) (front : List NamedKey) (key : NamedKey) (back : List NamedKey) → AllByRecursion P (front ++ key ∷ back) → P key
 all_at P [] key back h = h.0
 all_at P (first ∷ front) key back h = all_at P front key back h.1

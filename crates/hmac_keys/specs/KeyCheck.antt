@@ -19,7 +19,7 @@ line_has_name name line =
 abbrev pub lines_have_name : List Field → List (List ℕ) → Bool
 lines_have_name name lines = list_any (line_has_name name) lines
 
--- for each name, one of the lines has this name exactly if one of the keys has it
+-- for each name, one of the lines has this name exactly if one of the keys has this name
 abbrev pub HaveNames : List (List ℕ) → List NamedKey → Type 0
 HaveNames lines keys = (name : List Field) → lines_have_name name lines ≡ has_name name keys
 

@@ -23,7 +23,7 @@ abbrev pub not_empty : List Field → Option (List Field)
 not_empty [] = None
 not_empty (c ∷ name) = Some (c ∷ name)
 
--- the name that a URI reads as, or `None` if it reads as no name or as the empty name
+-- the name that a URI reads as, or `None` if the URI reads as no name or as the empty name
 abbrev pub name_of : List ℕ → Option (List Field)
 name_of uri = on_result not_empty (λ _. None) (name_in uri)
 
@@ -81,7 +81,7 @@ abbrev pub IsFaultBeforeMemory : Result (List NamedKey) KeyFault → KeyFault �
 IsFaultBeforeMemory read fault =
     (read ≡ Err fault) ⊎ ((fault ≡ Memory) × ((keys : List NamedKey) × (read ≡ Ok keys)))
 
--- ---- octets
+-- ---- the octets of key files
 
 -- the octets are the UTF-8 text of a key file with these keys
 abbrev pub AreKeys : List ℕ → List NamedKey → Type 0

@@ -10,7 +10,7 @@ const BLOCK_LEN: usize = 64;
 
 /// The outer pad, which is one octet. For the outer hash, each octet of the key's block is combined
 /// with the outer pad by XOR. For the inner hash, each octet of the key's block is combined with
-/// `INNER_PAD`, the inner pad, instead.
+/// the inner pad, `INNER_PAD`, by XOR.
 const OUTER_PAD: u8 = 0x5c;
 
 const INNER_PAD: u8 = 0x36;

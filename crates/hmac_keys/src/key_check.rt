@@ -33,7 +33,7 @@ fn is_key(digits: &str) -> bool
     hex::decode_to_slice(digits.as_bytes(), &mut octets[..len]).is_ok()
 }
 
-/// Returns the URI in `line`, or `BadLine` if no key can be read in `line`. This line has number
+/// Returns the URI in `line`, or `BadLine` if no key can be read in `line`. `line` has number
 /// `number`, and is not a skipped line.
 fn key_uri(number: u64, line: &str) -> Result<&str, KeyFault>
     ensures { MatchResult result

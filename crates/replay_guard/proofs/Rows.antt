@@ -100,8 +100,8 @@ pub other_spare : (spare : Option Signer) (k s : Signer) (b : Bool) → spare �
 other_spare spare k s b h e is other = (let one : k ≡ s = cc in let tied = same_signer s k (sym one) in cc)
 
 -- Let the time of a command be near `now`. `fresh_found`: if the signer of the command has a row,
--- the command is fresh exactly if it is newer than this row. `fresh_new`: if the signer of the
--- command has no row, the command is fresh.
+-- the command is fresh exactly if the command is newer than the state in this row. `fresh_new`: if
+-- the signer of the command has no row, the command is fresh.
 pub fresh_found : (table : Table) (es : List Row) (at : ℕ) (row : Row) (s : Signer) (t : ℕ) (n : Option ℕ) (now : ℕ) (b : Bool) → from_entries es ≡ table → IsFirst s es at → row ≡ get_or es at row
     → AreNear t now → (IsTrue b → IsAfterLatest (Some row.1) t n) × (IsAfterLatest (Some row.1) t n → IsTrue b) → (IsTrue b → IsFresh table s t n now) × (IsFresh table s t n now → IsTrue b)
 fresh_found table es at row s t n now b shown first is near both =
@@ -115,8 +115,8 @@ fresh_new table es s t n now shown none near =
     let got : map.get table s ≡ None = ap (λ (m : Table). map.get m s) (sym shown) ∙ get_none s es none in
     (near, subst (λ (o : Option Latest). IsAfterLatest o t n) (sym got) tt)
 
--- After one more command is recorded, the rows represent the new table. `recorded_found` is for a
--- signer that has a row. `recorded_new` is for a signer that has no row.
+-- After one more command is recorded, the rows represent the table with this command recorded.
+-- `recorded_found` is for a signer that has a row. `recorded_new` is for a signer that has no row.
 pub recorded_found : (table : Table) (es new : List Row) (at : ℕ) (row : Row) (s : Signer) (t : ℕ) (n : Option ℕ) → from_entries es ≡ table → IsFirst s es at → row ≡ get_or es at row
     → new ≡ set es at (row.0, raised (Some row.1) t n) → from_entries new ≡ with_recorded table (record { signer = s; time = t; number = n })
 recorded_found table es new at row s t n shown first is set_is =
@@ -160,8 +160,9 @@ place_tells table rows s (Some at) shown first =
     let got : map.get table s ≡ Some row.1 = ap (λ (m : Table). map.get m s) (sym shown) ∙ get_first s rows at row first (row_at_is rows at first.within) in
     (λ _. rw got refl, λ _. refl)
 
--- if `rows` has the first `at` rows of `others` and the row of `others` at index `at`, `rows` has
--- the first `at + 1` rows of `others`
+-- Let `x` be the row of `others` at index `at`. If `HasAll` holds for `rows` and the first `at`
+-- rows of `others`, and the first row of the signer of `x` in `rows` has the same time and number
+-- as `x`, then `HasAll` holds for `rows` and the first `at + 1` rows of `others`.
 pub all_more : (rows others : List Row) (at : ℕ) (x : Row) → at < length others → x ≡ get_or others at x → find signer_cmp x.0 rows ≡ Some x.1
     → HasAll rows (take at others) → HasAll rows (take (at + 1) others)
 all_more rows [] at x lt is found all = absurd (omega arith)
@@ -187,7 +188,7 @@ found_alike rows others q ours theirs = split (find signer_cmp q rows) (find sig
     split None (Some v) is other = found_too rows others q v ours other ∙ sym other
     split None None is other = is ∙ sym other
 
--- two lists of rows represent the same map if each list has all rows of the other list
+-- two lists of rows represent the same map if `HasAll` holds for the two lists in both orders
 pub same_table : (rows others : List Row) → HasAll rows others → HasAll others rows → from_entries {R = signer_cmp} rows ≡ from_entries others
 same_table rows others ours theirs = same_map signer_cmp-total signer_cmp-antisymmetric _ _ (λ q.
     get-from_entries signer_cmp-total rows q ∙ found_alike rows others q ours theirs ∙ sym (get-from_entries signer_cmp-total others q))

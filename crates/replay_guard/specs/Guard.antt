@@ -31,7 +31,7 @@ Table = map.FinMap signer_cmp Latest
 
 pub record GuardState : Type 0 where
   pub latest : Table
-  -- the signer for which a call of `record` is prepared
+  -- the signer for which a call of `record` is prepared, if any
   pub prepared : Option Signer
 
 -- recording a command of this signer needs no more memory: some command of the signer is recorded,
@@ -50,12 +50,12 @@ raised None time number = record { time = time; number = number }
 raised (Some l) time number =
     record { time = max l.time time; number = greater_number l.number number }
 
--- the table that recording the command `r` in `table` gives
+-- the table after the command `r` has been recorded in `table`
 abbrev pub with_recorded : Table → Recorded → Table
 with_recorded table r =
     map.insert table r.signer (raised (map.get table r.signer) r.time r.number)
 
--- the table that recording all commands of a list in the empty table gives; the command that is
+-- the table after all commands of a list have been recorded in the empty table; the command that is
 -- recorded last comes first in the list
 abbrev pub table_of : List Recorded → Table
 table_of [] = map.empty

@@ -14,7 +14,7 @@ pub record IsFirst (signer : Signer) (rows : List Row) (at : ℕ) : Type 0 where
   pub none_before : find signer_cmp signer (take at rows) ≡ None
   pub signer_is : (row : Row) → row ≡ slice_index_or rows at row → row.0 ≡ signer
 
--- `HasAll rows others` states that, for each row of `others`, the first row of its signer in `rows`
--- has the same time and number
+-- `HasAll rows others` states that, for each row of `others`, `rows` has a row of the same signer,
+-- and the first row of this signer in `rows` has the same time and number
 abbrev pub HasAll : List Row → List Row → Type 0
 HasAll rows = AllByRecursion (λ other. find signer_cmp other.0 rows ≡ Some other.1)
