@@ -18,8 +18,8 @@ get_last : (name : List Field) (x : Field) → slice_get (name ++ x ∷ []) (len
 get_last [] x = refl
 get_last (c ∷ name) x = get_last name x
 
--- if `name` is a prefix of `asked` and `asked` has one component more, then `asked` is `name`
--- followed by one component
+-- if `name` is a prefix of `asked` and `asked` has one component more than `name`, then `asked` is
+-- `name` followed by one component
 one_more : (name asked : List Field) → IsPrefix name asked → length asked ≡ length name + 1 → (x : Field) × (asked ≡ name ++ x ∷ [])
 one_more name asked p len = only p.0 p.1
   where

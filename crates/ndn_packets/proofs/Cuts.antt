@@ -28,7 +28,7 @@ no_step (Err f) kind octets further h = refl
 nothing_in : (kind : ℕ) (further : List ℕ → Option (List ℕ)) → step kind [] further (element_at []) ≡ None
 nothing_in kind further = no_step (element_at []) kind [] further (λ x e. (let none : length x.1 < 0 = element_leaves [] x e in absurd (omega arith)))
 
--- `from_within` returns the same for every limit that is at least the number of octets
+-- `from_within` returns the same result for every limit that is at least the number of octets
 within_same : (n m kind : ℕ) (octets : List ℕ) → length octets ≤ n → length octets ≤ m → from_within n kind octets ≡ from_within m kind octets
 unfolding from_within
 within_same zero zero kind octets p q = refl

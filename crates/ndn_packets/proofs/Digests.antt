@@ -111,8 +111,8 @@ fault_is name (Some p) (Some d) right h =
     more [] some = absurd (some refl)
     more (e ∷ ds) some = refl
 
--- `fault_by` takes only the first digest of parameters in a name, and `digest_fault` takes all
--- digests of parameters. `fault_by` returns the same fault as `digest_fault`.
+-- `fault_by` is computed from the first digest of parameters in a name, and `digest_fault` from all
+-- digests of parameters in the name. The two results are the same.
 pub fault_read : {A : Type 0} (view : A → List ℕ) (name : List Field) (parameters : Option A) (digest : Option FirstOfType) (from octets : List ℕ) → FindsFirst 2 name digest → OnSome parameters (from ≡ octets)
     → digest_fault (option_map view parameters) (digests_in name) (sha256 octets) ≡ fault_by (option_map view parameters) digest (sha256 from)
 fault_read view name None None from octets h e = fault_is name None None (sha256 octets) h

@@ -14,7 +14,7 @@ use Rattle.ndn_tlv.specs.Options.{on_option}
 use Rattle.ndn_packets.specs.Reading.{schema_after, fields_from, read_fields}
 use Rattle.ndn_packets.proofs.Steps.{bind_ok, good, err_is_not_ok, both_tests, read}
 
--- ---- whether a schema has a type, and whether a field of this type may come next
+-- ---- whether a schema lists a type, and whether a field of this type may come next
 
 abbrev pub Lacks : ℕ → List ℕ → Type 0
 Lacks kind schema = AllByRecursion (λ k. k ≢ kind) schema
@@ -33,8 +33,9 @@ in_nothing kind later h = at_front h.0 h.1
     at_front [] e = cc
     at_front (k ∷ front) e = cc
 
--- if the type `kind` is not `first`, but may come next in `first ∷ schema`, then `kind` may also
--- come next in `schema`, and `kind` does not need the previous field
+-- if `kind` is not `first`, and a field of type `kind` may come next by the schema
+-- `first ∷ schema`, then this field may also come next by `schema`, and `kind` does not need the
+-- previous field
 past_first : (kind first : ℕ) (later schema : List ℕ) → first ≢ kind → Counts kind later (first ∷ schema) → Counts kind later schema × (needs_previous_field kind ≡ false)
 past_first kind first later schema other h = at_front h.0 h.1 h.2 h.3
   where
@@ -138,7 +139,7 @@ fields_again ignores schema (e ∷ plain) fields (inl h) =
     rw (after_again e.0 schema h.0 h.2) (ap (λ (fs : List (Result Field PacketFault)). good e ∷ fs) (fields_again ignores h.0 plain h.1 h.4) ∙ ap (map good) (sym h.3))
 fields_again ignores schema (e ∷ plain) fields (inr h) = rw (after_none e.0 schema h.0, h.1) (fields_again ignores schema plain fields h.2)
 
--- ---- the fields of a schema are optional fields in the order of the schema
+-- ---- lists that have one optional field for each type in a schema, in the order of the schema
 
 abbrev pub InSchema : List ℕ → List Field → Type 0
 InSchema [] fields = fields ≡ []

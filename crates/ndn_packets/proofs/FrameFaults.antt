@@ -181,8 +181,8 @@ record Met (s : LinkSoFar) (headers : List Field) : Type 0 where
 none_met : Met no_headers_yet []
 none_met = record { sequence = refl; frag_index = refl; frag_count = refl; token = refl; nack = refl }
 
--- the state `t` of the reader has the flags of the state `s` and, in addition, the flag of the
--- known header field `kind`
+-- the state `t` of the reader has the flags of the state `s` and, if `kind` is the type of a known
+-- header field, also the flag of this field
 record Marks (s : LinkSoFar) (kind : ℕ) (t : LinkSoFar) : Type 0 where
   sequence : t.sequence ≡ (s.sequence || eqb kind 81)
   frag_index : t.frag_index ≡ (s.frag_index || eqb kind 82)

@@ -43,8 +43,8 @@ full_octets value digest name h len =
       fields_more name (1, digest) h.0.0 (omega arith, omega arith, digest_len),
     )
 
--- if `full` is `value ++ element (1, digest)`, where `value` is the TLV-VALUE of a name, then
--- `full` encodes the full name with this name and this digest
+-- if `full` is `value ++ element (1, digest)`, where `value` is the TLV-VALUE of a name and
+-- `digest` has 32 octets, then `full` encodes the full name with this name and this digest
 pub made : (value digest full : List ℕ) (name : List Field) → IsNameValue value name → components_of value ≡ name → length digest ≡ 32
     → full ≡ value ++ element (1, digest) → (name_in full ≡ name) × (digest_in full ≡ digest) × IsFullName full
 made value digest full name h shown len is =

@@ -15,8 +15,8 @@ use Rattle.ndn_packets.proofs.Steps.{some_is, none_is_not_some}
 use Rattle.ndn_packets.proofs.Cuts.{next_is, next_other}
 
 -- if `octets` begin with an element that is not a field, and a field of type `kind` may still come,
--- then `from_first kind` returns the same for `octets` and for `after`, the octets after this
--- element
+-- then `from_first kind` returns the same result for `octets` as for `after`, which is the octets
+-- after this element
 pub skipped : (kind k : ℕ) (schema whole value octets after : List ℕ) → None ≡ schema_after k schema → schema ≡ whole → IsSome (schema_after kind whole) → Ok ((k, value), after) ≡ element_at octets → from_first kind octets ≡ from_first kind after
 skipped kind k schema whole value octets after none same comes read =
     next_other kind octets (k, value) after read
@@ -77,7 +77,7 @@ module _ (P : ℕ → Type 0) (kind : ℕ) (later : List ℕ) (m : IsMark P kind
         | false ↦ λ _. rw (ne_eqb j kind (m.apart j all.0)) (comes front all.1)
       ] refl
 
--- ---- a reader that waits for the field of a type
+-- ---- a reader that waits for the field of a given type
 
 -- the reader `fields` has passed no element of type `kind` in `text` yet, and a field of this type
 -- may still come
@@ -258,8 +258,8 @@ interest_value text before after e (Some q) (Some i) None p v here is h =
 interest_value text before after e (Some q) (Some i) (Some w) p v here is h = absurd (nothing_comes before after e here h.0)
 
 -- If the ApplicationParameters were read, `p` is the input from the ApplicationParameters on, and
--- each consequence `X` of this fact holds. If the InterestSignatureValue was read, `p` and `v`
--- satisfy `IsSignedAt`.
+-- every statement `X` that follows from this fact holds. If the InterestSignatureValue was read,
+-- `p` and `v` satisfy `IsSignedAt`.
 pub interest_last : {A B C : Type 0} (f : A → List ℕ) (g : B → PlainSignatureInfo) (k : C → List ℕ) (text : List ℕ) (fields : FieldReader) (a : Option A) (b : Option B) (c : Option C) (p v : List ℕ)
     → InterestMark text fields (option_map f a) (option_map g b) (option_map k c) p v → (X : Type 0) → (from_first 36 text ≡ Some p → X) → OnSome a X × OnSome c (IsSignedAt text p v)
 interest_last f g k text fields None None None p v h X there = (tt, tt)

@@ -7,7 +7,7 @@ use Rattle.ndn_tlv.specs.Writing.{optional, flag}
 use Rattle.ndn_packets.specs.Fields.{Counts, Fields, needs_previous_field, interest_schema, data_schema}
 use Rattle.ndn_packets.proofs.FieldLists.{Lacks}
 
--- ---- the types of fields, and the types before and after a type of a schema
+-- ---- fields of other types, and the types before and after a given type in a schema
 
 abbrev pub Others : ℕ → List Field → Type 0
 Others kind fields = AllByRecursion (λ f. f.0 ≢ kind) fields
@@ -239,7 +239,7 @@ field_at ignores before later kind value (e ∷ elements) fields early late arou
       again = λ w. inr (h.0, h.1, r.again w);
     }
 
--- ---- whether a type is in a schema
+-- ---- whether a schema lists a given type
 
 lacks : ℕ → List ℕ → Bool
 lacks kind [] = true
@@ -271,7 +271,7 @@ all_lack-true (k ∷ kinds) schema e =
     let g = guard (lacks k schema) (all_lack kinds schema) e in
     (lacks-true k schema g.0, all_lack-true kinds schema g.1)
 
--- ---- whether some field has a type
+-- ---- whether some field has a given type
 
 abbrev pub Has : ℕ → List Field → Type 0
 Has kind [] = ⊥

@@ -164,8 +164,8 @@ abbrev IsLoose : List ℕ → Type 0
 IsLoose [] = Unit {0}
 IsLoose (k ∷ schema) = needs_previous_field k ≡ false
 
--- the type `kind` may come before the types in `schema`: it is not in `schema`, and the first type
--- in `schema`, if there is one, does not need the previous field
+-- the type `kind` may come before the types in `schema`: `kind` is not in `schema`, and the first
+-- type in `schema`, if there is one, does not need the previous field
 abbrev pub Precedes : ℕ → List ℕ → Type 0
 Precedes kind schema = AllByRecursion (λ k. k ≢ kind) schema × IsLoose schema
 

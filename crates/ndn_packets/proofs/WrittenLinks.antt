@@ -24,7 +24,7 @@ use Rattle.ndn_packets.proofs.FieldLists.{AreBytes}
 use Rattle.ndn_packets.proofs.Packets.{framed_again}
 use Rattle.ndn_packets.proofs.Written.{length-element, IsBytes-element, IsBytes-octets, all_append, in_order, last, number_fits, bytes_of_number}
 
--- ---- without a PIT token, `lp_text` is the packet or the Nack alone
+-- ---- `lp_text` without a PIT token: the packet alone, or `nack_text` if a Nack is given
 
 pub bare_text : (packet : List ℕ) → lp_text None None packet ≡ packet
 bare_text packet = refl

@@ -20,18 +20,19 @@ ignored_by rules.SignatureInfo = is_ignored_in_signature_info
 abbrev pub fields_left : FieldReader → List (Result Field PacketFault)
 fields_left f = fields_from (ignored_by f.rules) f.schema.now (elements_of f.rest.now)
 
--- A step of the reader from `before` to `after` returns the next field. The step returns `None` if
--- no field is left. The step returns a fault if this fault is the only item that is left.
+-- What a step of the reader from the state `before` to the state `after` returns: the next field,
+-- if a field is left; `None`, if nothing is left; or a fault, if this fault is the only item that
+-- is left.
 abbrev pub IsNextField : FieldReader → FieldReader → Result (Option Element) PacketFault → Type 0
 IsNextField before after (Ok None) = fields_left before ≡ []
 IsNextField before after (Ok (Some e)) =
     fields_left before ≡ Ok (e.kind, e.value.now) ∷ fields_left after
 IsNextField before after (Err fault) = fields_left before ≡ Err fault ∷ []
 
--- The reader just returned the field `e`. `after.here` is the octets from `e` on. `after.schema`
--- lists the types after the type of `e`. If a field of type `kind` could come next when the reader
--- was in the state `before`, then `before.rest` and `after.here` have the same octets from the
--- first element of type `kind` on.
+-- The reader just returned the field `e`. `after.here` is the input from the start of `e` on.
+-- `after.schema` lists the types after the type of `e`. If a field of type `kind` could come next
+-- when the reader was in the state `before`, then `before.rest` and `after.here` have the same
+-- octets from the first element of type `kind` on.
 pub record StandsHere (before after : FieldReader) (e : Element) : Type 0 where
   pub here : Ok ((e.kind, e.value.now), after.rest.now) ≡ element_at after.here.now
   pub schema : schema_after e.kind before.schema.now ≡ Some after.schema.now

@@ -8,9 +8,9 @@ use Rattle.ndn_packets.specs.declared.fault.PacketFault.TheVariants.{Tlv, Critic
 use Rattle.ndn_packets.specs.Fields.{Counts}
 use Rattle.ndn_packets.specs.Reading.{fields_from, read_fields}
 
--- Each element is either ignored, or is a field of the schema. `take` accepts every one of these
--- fields. `later` lists the types that may still come after the last element. `t` is the state
--- after the last element.
+-- Each element that is not ignored is a field of the schema, and `take` accepts this field. `later`
+-- lists the types that may still come after the last element. `t` is the state after the last
+-- element.
 abbrev pub Passes : {S : Type 0} → (S → Field → Result S PacketFault) → (ℕ → Bool) → List ℕ → S
     → List Field → List ℕ → S → Type 0
 Passes take ignores schema s [] later t = (later ≡ schema) × (t ≡ s)
@@ -39,7 +39,8 @@ HasFault take ignores schema s (Ok e) fault =
     × (fault ≡ CriticalUnknown))
     ⊎ ((next : List ℕ) × Counts e.0 next schema × (take s e ≡ Err fault))
 
--- The first fault among the elements. All elements before the faulty element are fields or ignored.
+-- The first fault among the elements. All elements before the faulty element are ignored, or are
+-- fields that `take` accepts.
 pub record FirstFault {S : Type 0} (take : S → Field → Result S PacketFault) (ignores : ℕ → Bool)
     (schema : List ℕ) (s : S) (elements : List (Result Field TlvFault))
     (fault : PacketFault) : Type 0 where
@@ -52,7 +53,8 @@ pub record FirstFault {S : Type 0} (take : S → Field → Result S PacketFault)
   pub passes : Passes take ignores schema s before later taken
   pub faulty : HasFault take ignores later taken next fault
 
--- reading the fields of a schema returns a fault exactly if this fault is the first fault
+-- reading the fields of a schema returns a fault exactly if this fault is the first fault among the
+-- elements
 abbrev pub TellsFirstFault : {S : Type 0} → (S → Field → Result S PacketFault) → (ℕ → Bool)
     → List ℕ → S → Type 0
 TellsFirstFault take ignores schema s =

@@ -14,8 +14,8 @@ use Rattle.ndn_packets.specs.declared.types.TheConstants.{DATA, FRAGMENT, FRAG_C
 
 -- ---- packets
 
--- the element, if a text is exactly one element; the fault is `BadField` if octets follow the
--- element, and `Tlv` if no element can be read
+-- the element, if a text is exactly one element; the fault is `BadField` if octets follow the first
+-- element, and `Tlv` if the first element cannot be read
 abbrev pub only_element : List ℕ → Result Field PacketFault
 only_element text =
     on_result (λ x. if is_nil x.1 then Ok x.0 else Err BadField) (λ f. Err (Tlv f))
@@ -29,8 +29,8 @@ interest_of text value = if nat_lt 8800 (length text) then Err TooLong else inte
 abbrev pub data_of : List ℕ → List ℕ → Result PlainData PacketFault
 data_of text value = if nat_lt 8800 (length text) then Err TooLong else data_at value
 
--- The packet in the octets `text`, or its fault. The octets `text` are exactly the element `outer`.
--- An element that is neither an Interest nor a Data has the fault `BadField`.
+-- The packet in the octets `text`, or the fault of these octets. The octets `text` are exactly the
+-- element `outer`. An element that is neither an Interest nor a Data has the fault `BadField`.
 abbrev pub packet_of : List ℕ → Field → Result PlainFrame PacketFault
 packet_of text outer =
     if outer.0 == INTEREST then (interest_of text outer.1 >>= λ i. Ok (AnInterest text i)) else (
@@ -106,8 +106,8 @@ with_header s h =
 abbrev pub take_header : LinkSoFar → Field → Result LinkSoFar PacketFault
 take_header s h = if is_refused_header s h then Err LpField else with_header s h
 
--- the packet in a Fragment, or its fault; if the link packet has a Nack, this packet must be an
--- Interest
+-- the packet in a Fragment, or the fault of the Fragment; if the link packet has a Nack, this
+-- packet must be an Interest
 abbrev pub fragment_at : Option ℕ → List ℕ → Result PlainFrame PacketFault
 fragment_at None text = only_element text >>= packet_of text
 fragment_at (Some reason) text = only_element text >>= nacked_of reason text
@@ -125,8 +125,9 @@ abbrev pub no_fragment : Option (List ℕ) → Option ℕ → Result PlainFramed
 no_fragment token None = Ok (framed_with token Idle)
 no_fragment token (Some reason) = Err BadField
 
--- The content of a link packet, or its first fault. `s` is the state after the header fields that
--- have been read. The list of elements has the elements that have not been read yet.
+-- The content of a link packet, or the first fault of the link packet. `s` is the state after the
+-- header fields that have been read. The list argument has the elements that have not been read
+-- yet.
 abbrev pub link_from : LinkSoFar → List (Result Field TlvFault) → Result PlainFramed PacketFault
 link_from s [] = no_fragment s.token s.nack
 link_from s (Err f ∷ elements) = Err (Tlv f)
@@ -140,7 +141,8 @@ link_at value = link_from no_headers_yet (elements_of value)
 
 -- ---- frames
 
--- the frame in the octets `text`, or its first fault; `text` is exactly the element `outer`
+-- the frame in the octets `text`, or the first fault of these octets; `text` is exactly the element
+-- `outer`
 abbrev pub outer_of : List ℕ → Field → Result PlainFramed PacketFault
 outer_of text outer =
     if outer.0 == LINK_PACKET then link_at outer.1

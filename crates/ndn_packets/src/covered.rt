@@ -64,8 +64,8 @@ impl<'a> Interest<'a> {
 }
 
 /// Returns the octets from the first element of type `kind` on, or `None` if there is no such
-/// element. The search ends at the first element that cannot be read, and the result is then
-/// `None`.
+/// element. Also returns `None` if an element before the first element of type `kind` cannot be
+/// read.
 pub(crate) fn from_first(octets: &[u8], kind: u32) -> Option<&[u8]>
     ensures exact { option_map (λ from. from.now) result ≡ from_first kind octets.now }
     ensures within { IfSome result (λ from. length from.now ≤ length octets.now) }

@@ -29,7 +29,8 @@ pub struct DataWriter<'a> {
     pub name: Name<'a>,
     /// The FreshnessPeriod in milliseconds.
     pub freshness: Option<u64>,
-    /// The segment number of the last segment. This number is written as the FinalBlockId.
+    /// The segment number of the last segment. This number is written as the one component in the
+    /// FinalBlockId.
     pub last: Option<u64>,
     /// The value of the Content.
     pub content: Option<&'a [u8]>,
@@ -47,9 +48,9 @@ impl DataWriter<'_> {
     ghost use Rattle.ndn_tlv.specs.Writing.{octets, Puts, optional};
     ghost use Rattle.ndn_packets.specs.Writing.{fields_covered, fields_asked, meta_fields, meta_asked, data_text, data_asked, data_refusal, IsLength, IsU64, SoundData};
 
-    /// Appends the Data with only the requested fields, in the standard's order and in their
-    /// shortest forms. If neither a FreshnessPeriod nor a last segment is requested, no MetaInfo is
-    /// written.
+    /// Appends the Data with only the requested fields and the fields of the signature, in the
+    /// standard's order and in their shortest forms. If neither a FreshnessPeriod nor a last
+    /// segment is requested, no MetaInfo is written.
     ///
     /// If the Data cannot be written, returns the first fault in the order of `WriteFault` and
     /// appends nothing. `BadName` is never returned.

@@ -30,7 +30,8 @@ pub enum PacketFault {
     #[error("an element is unknown or out of order, and may not be ignored")]
     CriticalUnknown,
     /// A required field other than the Name and the Nonce is missing, or the value of a field is
-    /// malformed. `BadField` is also the fault of an outer element with a type other than 5, 6 or
+    /// malformed (the values of ForwardingHint, FinalBlockId, KeyLocator and SignatureNonce are not
+    /// checked). `BadField` is also the fault of an outer element with a type other than 5, 6 or
     /// 100, and of octets after the outer element. A Nack without a Fragment has the fault
     /// `BadField`. A Fragment has the fault `BadField` if octets follow its first element, or if
     /// this element is neither an Interest nor a Data. With a Nack, a Fragment that contains a Data

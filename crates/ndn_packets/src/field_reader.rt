@@ -46,8 +46,8 @@ impl<'a> FieldReader<'a> {
     }
 
     /// Returns the next field, or `None` if no field is left. An element that is not a field is
-    /// ignored if the rules allow this. Otherwise, the element has the fault `CriticalUnknown`. An
-    /// element that cannot be read has the fault `Tlv`.
+    /// ignored if `self.rules` ignores the element's type, and otherwise has the fault
+    /// `CriticalUnknown`. An element that cannot be read has the fault `Tlv`.
     #[inline(always)]
     pub fn next(&mut self) -> Result<Option<Element<'a>>, PacketFault>
         ensures walk { IsNextField self.old self.new result }

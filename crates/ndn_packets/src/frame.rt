@@ -54,8 +54,8 @@ pub const MAX_PACKET: usize = 8800;
 
 /// Reads a frame: one Interest, one Data, or a link packet (NDN Packet Format 0.3, "Interest
 /// Packet" and "Data Packet"; NDNLPv2, "Packet Format"). The fields of an Interest or a Data must
-/// be in the order of the standard. The header fields of a link packet may be in any order.
-/// Elements that are not fields are ignored if their types allow it. The digest of an Interest's
+/// be in the order of the standard. The header fields of a link packet may be in any order. Any
+/// other element must have a type that is ignored. The digest of an Interest's
 /// ApplicationParameters must be correct. A frame has at most 9,000 octets, and a packet at most
 /// 8,800. The field `whole` of a packet has the packet's own element, without the link packet
 /// around the element.
@@ -141,8 +141,8 @@ fn framed_of(octets: &[u8]) -> Result<Framed<'_>, PacketFault>
     }
 }
 
-/// Returns the element if the octets are exactly one element. Returns `Tlv` if no element can be
-/// read, and `BadField` if octets follow the element.
+/// Returns the element if the octets are exactly one element. Returns `Tlv` if the first element
+/// cannot be read, and `BadField` if octets follow the first element.
 #[inline(always)]
 pub(crate) fn only_element(octets: &[u8]) -> Result<Element<'_>, PacketFault>
     ensures exact { on_result (λ e. Ok (e.kind, e.value.now)) Err result ≡ only_element octets.now }
@@ -192,8 +192,8 @@ pub(crate) fn nacked_of(reason: u64, outer: Element<'_>) -> Result<Frame<'_>, Pa
     Ok(Frame::Nack { reason, interest })
 }
 
-/// Law: octets have at most one reading as a frame, and at most one as a frame with its PIT token.
-/// `frame_at` reads the frame, and `framed_at` reads the frame with its token.
+/// Law: octets have at most one reading as a frame, and at most one reading as a frame with its PIT
+/// token. `frame_at` reads the frame, and `framed_at` reads the frame with its token.
 pub fn frames_have_one_reading()
     ensures one { (text : List ℕ) (a b : PlainFrame) → IsFrame text a → IsFrame text b → a ≡ b }
     ensures exact { (text : List ℕ) (frame : PlainFrame) → ((i : ℕ) → slice_index text i < 256)

@@ -105,8 +105,8 @@ impl InterestWriter<'_> {
         Ok(done?)
     }
 
-    /// Returns why the Interest is refused, or `None` if it is not refused. A lack of memory is not
-    /// considered.
+    /// Returns why the Interest is refused, or `None` if the Interest is not refused. A lack of
+    /// memory is not considered.
     #[inline(always)]
     fn refusal(&self, lengths: Lengths) -> Option<WriteFault>
         requires { IsLength lengths.value (octets (interest_fields self.now)) }

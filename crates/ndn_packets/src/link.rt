@@ -88,8 +88,7 @@ impl<'a> Headers<'a> {
     }
 }
 
-/// Returns whether a header field of type `kind` is ignored if this crate does not know the type
-/// (NDNLPv2, "Packet Format").
+/// Returns whether an unknown header field of type `kind` is ignored (NDNLPv2, "Packet Format").
 fn is_ignored_header(kind: u32) -> bool
     ensures { result ≡ is_ignored_header kind }
 {

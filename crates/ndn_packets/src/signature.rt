@@ -50,11 +50,12 @@ pub struct Signature<'a> {
 /// How a written packet is signed.
 #[derive(Clone, Copy, Debug)]
 pub enum Sign<'a> {
-    /// DigestSha256: the value is SHA-256 of the covered octets (NDN Packet Format 0.3,
-    /// "DigestSha256").
+    /// DigestSha256: the value of the signature is SHA-256 of the covered octets (NDN Packet Format
+    /// 0.3, "DigestSha256").
     Digest,
-    /// HmacWithSha256: the value is the HMAC with SHA-256 of the covered octets, under a key of any
-    /// length. The KeyLocator is the key's name (NDN Packet Format 0.3, "SignatureHmacWithSha256").
+    /// HmacWithSha256: the value of the signature is the HMAC-SHA-256 of the covered octets, under
+    /// a key of any length. The KeyLocator is the key's name (NDN Packet Format 0.3,
+    /// "SignatureHmacWithSha256").
     Hmac {
         /// The key's name.
         name: Name<'a>,
