@@ -18,7 +18,7 @@ use Rattle.name_trie.specs.Changes.{Joins, Starts, Cuts, IsBare, Sets, Turns, La
 use Rattle.name_trie.proofs.Revised.{equal, get-revise}
 use Rattle.name_trie.proofs.Walks.{walk_none}
 
--- ---- an index, or None if the index is k
+-- ---- an index j, or None if j is k (`unless_is`)
 
 pub unless_is_self : (k : ℕ) → unless_is k k ≡ None
 unless_is_self k = ap (λ b. cond b None (Some k)) (eq-eqb k k refl)
@@ -339,7 +339,7 @@ module _ {V : Type 0} (k : ℕ) (h h' : Heap V) (starts : Starts k h h') (sound 
         (λ ne. absurd (let way = sound.reach j u (sym (started_up j ne) ∙ e) in let none = walk_none h way.0 in cc));
   }
 
--- ---- a node that has neither a value nor children is removed
+-- ---- the removal of a node that has neither a value nor children (`Cuts`)
 
 module _ {V : Type 0} (k : ℕ) (o : Option ℕ) (h h' : Heap V) (root : Option ℕ) (cuts : Cuts k o h h') (sound : Sound h root) (bare : IsBare h k) where
   cut_children : Node V → Node V

@@ -1,4 +1,4 @@
--- Changes of single nodes' values.
+-- Changes of the value of a single node.
 use Rattle.std.proofs.Common.{◌≡◌, ◌≢◌, ℕ, ◌+◌, ◌-◌, ◌≤◌, true, false, cond, List, [], ◌∷◌, length, refl, sym, ap, ◌∙◌, arith}
 use Rattle.std.specs.Prelude.{Option, None, Some, IsSome, is_some, is_none, ◌&&◌}
 use Rattle.std.specs.Option.{option_and_then, option_map}

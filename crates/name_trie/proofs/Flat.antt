@@ -90,8 +90,8 @@ module _ {N F K X : Type 0} {R : N → N → Ordering} {S : F → F → Ordering
         or_none None = refl
         or_none (Some x) = refl
 
-    -- in the flattened map, the value of a key is the value of the key's inner key in the row of
-    -- the key's name
+    -- for a key that is made from a name and an inner key, the flattened map has the value that the
+    -- row of this name has for this inner key
     pub get-flatten : (t : FinMap R (FinMap S X)) (k : K) → get (flatten Q key t) k ≡ option_and_then (λ r. get r (rest k)) (get t (name k))
     unfolding flatten
     get-flatten t k =

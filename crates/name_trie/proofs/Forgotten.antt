@@ -24,7 +24,7 @@ others_stay child (x ∷ rows) all =
 
 module _ {K : Type 0} {R : K → K → Ordering} (total : IsTotalOrder R) (anti : IsAntisymmetric R) (child : ℕ) where
   -- Let all keys of `rows` be greater than the key of the row `x`. If a lookup of the key `k` in
-  -- `rows` finds the child, a lookup of `k` in `x ∷ rows` finds the child too.
+  -- `rows` finds `child`, a lookup of `k` in `x ∷ rows` finds `child` too.
   found_more : (x : K × ℕ) (rows : List (K × ℕ)) → T (below_all R x.0 rows) → (k : K) → find R k rows ≡ Some child → find R k (x ∷ rows) ≡ Some child
   found_more x rows below k found =
       elim (eq_by_cmp R k x.0) as (λ b. eq_by_cmp R k x.0 ≡ b → cond b (Some x.1) (find R k rows) ≡ Some child) [
@@ -38,7 +38,8 @@ module _ {K : Type 0} {R : K → K → Ordering} (total : IsTotalOrder R) (anti 
   found_first : (x : K × ℕ) (rows : List (K × ℕ)) → find R x.0 (x ∷ rows) ≡ Some x.1
   found_first x rows = ap (λ o. cond (is_eq o) (Some x.1) (find R x.0 rows)) (tied_itself total x.0)
 
-  -- if no lookup in the rows finds the child, removing the rows of the child changes nothing
+  -- if no lookup in sorted rows finds `child`, removing the rows with the index `child` changes
+  -- nothing
   unchanged : (rows : List (K × ℕ)) → T (is_sorted R rows) → ((k : K) → find R k rows ≢ Some child) → revised (unless_is child) rows ≡ rows
   unchanged [] sorted none = refl
   unchanged (x ∷ rows) sorted none =
@@ -46,7 +47,7 @@ module _ {K : Type 0} {R : K → K → Ordering} (total : IsTotalOrder R) (anti 
       let rest = unchanged rows (second_of _ _ sorted) (λ k e. none k (found_more x rows (first_of _ _ sorted) k e)) in
       ap (λ o. with_entry x.0 o (revised (unless_is child) rows)) (unless_is_other child x.1 other) ∙ ap (λ l. x ∷ l) rest
 
-  -- lookups find the child under at most one key
+  -- lookups find `child` under at most one key
   abbrev IsOnce : List (K × ℕ) → Type 0
   IsOnce rows = (j k : K) → find R j rows ≡ Some child → find R k rows ≡ Some child → j ≡ k
 

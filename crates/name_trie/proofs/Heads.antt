@@ -1,5 +1,5 @@
 -- Comparing lists of octets by their heads. The head of a list is the big-endian number that the
--- first octets of the list encode.
+-- first n octets of the list encode.
 use Rattle.std.proofs.Common.{◌≡◌, ℕ, zero, suc, ◌+◌, ◌*◌, ◌^◌, ◌<◌, ◌≤◌, List, [], ◌∷◌, length, refl, sym, ap, subst, ◌∙◌, add-one, arith}
 use Rattle.std.proofs.Math.Nat.{pow-succ', pow-le-pow_right}
 use Rattle.std.proofs.lemmas.List.{get_or_past}
@@ -25,8 +25,7 @@ small (suc n) octets are =
     let less : head n octets * 256 + slice_index octets n < 256 * 256 ^ n = mul-add-lt (head n octets) 256 (slice_index octets n) (256 ^ n) (small n octets are) (are n) in
     subst (λ (m : ℕ). head n octets * 256 + slice_index octets n < m) (sym (pow-succ' 256 n)) less
 
--- the head of fewer than 8 octets is less than 2^56, so that appending one more octet does not
--- exceed 64 bits
+-- the head of fewer than 8 octets is less than 2^56, so the head of one octet more fits in 64 bits
 pub room : (n : ℕ) (octets : List ℕ) → AreOctets octets → n < 8 → head n octets < 2 ^ 56
 room n octets are lt =
     let most : 256 ^ n ≤ 256 ^ 7 = pow-le-pow_right {n = 256} (omega arith) {i = n} {j = 7} (omega arith) in
@@ -43,8 +42,8 @@ past n octets le =
     let none : slice_index octets n ≡ 0 = get_or_past octets n 0 le in
     omega (arith, next n octets, none)
 
--- if the first 8 octets of `eight` are the first 8 octets of `octets`, `eight` as a big-endian
--- number is the head of `octets`
+-- if the first 8 octets of `eight` are the first 8 octets of `octets`, the big-endian number that
+-- these 8 octets encode is the head of `octets`
 pub big_endian : (octets eight : List ℕ) → ((i : ℕ) → i < 8 → slice_index eight i ≡ slice_index octets i) → from_be_bytes w64 eight ≡ head 8 octets
 unfolding head
 big_endian octets eight same =
@@ -106,7 +105,8 @@ by_head n a b are bare =
     ] in
     by (nat_cmp (head n a) (head n b)) refl
 
--- two lists of octets of equal length, at most 8, have the same order as their heads
+-- if two lists of octets have the same length, and this length is at most 8, the lists have the
+-- same order as their heads
 pub by_head_alone : (a b : List ℕ) → AreOctets a → AreOctets b → length a ≡ length b → length a ≤ 8 → nat_cmp (head 8 a) (head 8 b) ≡ slice_cmp nat_cmp a b
 by_head_alone a b are bare len short =
     let by : (o : Ordering) → o ≡ nat_cmp (head 8 a) (head 8 b) → o ≡ slice_cmp nat_cmp a b = λ o.

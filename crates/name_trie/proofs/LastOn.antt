@@ -1,4 +1,5 @@
--- The last value on a walk is the value of the longest prefix that has a value.
+-- The last value on a walk along a name is the value of the longest prefix of the name that has a
+-- value.
 use Rattle.std.proofs.Common.{◌≡◌, ℕ, zero, suc, ◌≤◌, List, [], ◌∷◌, length, take, refl, sym, ap, ◌∙◌, arith}
 use Rattle.std.proofs.lemmas.List.{length-take-le}
 use Rattle.std.specs.Prelude.{Option, None, Some}

@@ -62,7 +62,7 @@ module _ {V : Type 0} where
   rows_at h zero k ne = absurd (ne refl)
   rows_at h (suc n) k ne = let one : n ≡ suc n - 1 = omega arith in ap (λ (m : ℕ). with_entry [] (value h k) (below (rows h m) (links h k))) one
 
-  -- ---- the rows are in canonical order
+  -- ---- the rows of a trie are in canonical order
 
   below_under : (c : Field) (a : List Field) (rs : List (List Field × V)) → T (below_all name_cmp a rs) → T (below_all name_cmp (c ∷ a) (map (λ r. (c ∷ r.0, r.1)) rs))
   below_under c a [] h = tt

@@ -79,8 +79,8 @@ pub same_timers : {V : Type 0} (timer : V → ℕ) (h h' : Heap V) (timers : Tim
 same_timers timer h h' timers same was t = was t ∙ ap (λ o. rings (option_map timer o) t.deadline) (sym (same t.key))
 
 module _ {V : Type 0} (timer : V → ℕ) (k : ℕ) (h h' : Heap V) (others : (j : ℕ) → j ≢ k → value h' j ≡ value h j) (timers : TimerSet) (was : IsTimed timer h timers) where
-  -- Let only the value of the node k change. Stopping the old timer of k, and starting the new
-  -- timer of k, makes the timers those of the changed values (`IsTimed`).
+  -- Let only the value of the node k change. After the old timer of k is stopped and the new timer
+  -- of k is started, the timers are those of the changed values (`IsTimed`).
   pub retimed : IsTimed timer h' (started k (timer_at timer h' k) (stopped k (timer_at timer h k) timers))
   retimed t =
       let o = timer_at timer h k in
@@ -205,7 +205,7 @@ module _ {V : Type 0} (timer : V → ℕ) (change : V → Option V) (now : ℕ) 
         | (Some v) ↦ λ is. idle v (none (timer_for j (timer v)) (timer_there timer h timers timed j (timer v) (ap (option_map timer) is)))
       ] refl
 
--- ---- removing a value, and setting one
+-- ---- removing a value, and setting a value
 
 module _ {V : Type 0} (k : ℕ) (h h' : Heap V) where
   pub set_others : (v : Option V) → Sets k v h h' → (j : ℕ) → j ≢ k → value h' j ≡ value h j

@@ -162,7 +162,8 @@ module _ {S W V : Type 0} (show : S → List ℕ → W → S) where
       ap (λ w. shown_known show known (show s (octets_of e.0) w) es) (same e.0 short.0)
       ∙ known_same (show s (octets_of e.0) (known' e.0)) known known' n es short.1 same
 
-  -- what a visitor is shown of a trie depends only on the states at names of at most 64 components
+  -- of all states, only those at names of at most 64 components affect what a visitor is shown of a
+  -- trie
   pub rows_same : (s : S) (known known' : List Field → W) (h : Heap V) (root : Option ℕ) → ((q : List Field) → length q ≤ 64 → known q ≡ known' q)
       → shown_known show known s (rows h 65 root) ≡ shown_known show known' s (rows h 65 root)
   rows_same s known known' h root same = known_same s known known' 65 (rows h 65 root) (short_rows h 65 root) (λ q lt. same q (omega (arith, lt)))

@@ -33,7 +33,7 @@ longest_within table name zero = get table []
 longest_within table name (suc n) =
     option_or (get table (take (suc n) name)) (longest_within table name n)
 
--- the value of the longest prefix of `name` that has a value, or None if no prefix has one
+-- the value of the longest prefix of `name` that has a value, or None if no prefix has a value
 abbrev pub longest : {X : Type 0} → ByName X → List Field → Option X
 longest table name = longest_within table name (length name)
 

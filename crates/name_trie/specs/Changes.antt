@@ -14,7 +14,7 @@ bare parent = record { parent = parent; hint = tt; children = empty; value = Non
 
 module _ {V : Type 0} where
   -- A new node k is added as the child of node `at` for the component `c`. The new node has no
-  -- value and no children. No other node changes.
+  -- value and no children. No node other than k and `at` changes.
   pub record Joins (k at : ℕ) (c : Field) (h h' : Heap V) : Type 0 where
     pub node : Node V
     pub there : h at ≡ Some node
@@ -36,7 +36,7 @@ module _ {V : Type 0} where
     pub bare : value h k ≡ None
 
   -- The node k, whose optional parent is o, is removed. If o is Some p, the links from p to k are
-  -- removed too. No other node changes.
+  -- removed too. No node other than k and p changes.
   pub record Cuts (k : ℕ) (o : Option ℕ) (h h' : Heap V) : Type 0 where
     pub was : up h k ≡ Some o
     pub gone : h' k ≡ None
@@ -65,7 +65,7 @@ module _ {V : Type 0} where
     pub ups : (a : ℕ) → a ≢ k → up h' a ≡ up h a
 
   -- each name leads from `root'` in `h'` to the same value as from `root` in `h`, or to no value in
-  -- both
+  -- either heap
   abbrev pub SameLookups : Heap V → Option ℕ → Heap V → Option ℕ → Type 0
   SameLookups h root h' root' = (q : List Field) → lookup h' root' q ≡ lookup h root q
 
@@ -90,6 +90,7 @@ pub record Turns {V : Type 0} (k : ℕ) (v : Option V) (h h' : Heap V) : Type 0 
   pub here : value h' k ≡ v
   pub others : (a : ℕ) → a ≢ k → value h' a ≡ value h a
 
--- each node has a value or children, except the reserved node `kept`, if there is one
+-- each node other than the reserved node `kept` has a value or children; `kept` is None if no node
+-- is reserved
 abbrev pub IsTidy : {V : Type 0} → Heap V → Option ℕ → Type 0
 IsTidy h kept = (j : ℕ) → IsBare h j → kept ≡ Some j

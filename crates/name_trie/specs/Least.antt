@@ -13,7 +13,7 @@ abbrev pub each : {K X : Type 0} {R : K → K → Ordering} → (X → Option X)
     → Option (FinMap R X)
 each change m = nonempty (revise change m)
 
--- the least of n and of the deadlines of the values in the list
+-- the least of these numbers: n, and the deadlines of the values in the list
 abbrev pub least_from : {K X : Type 0} → (X → ℕ) → ℕ → List (K × X) → ℕ
 least_from timer n [] = n
 least_from timer n (e ∷ es) = least_from timer (min n (timer e.1)) es

@@ -44,8 +44,8 @@ HasTimerRoom true w = set.len w.timers < w.capacity
 abbrev pub size_at : {V : Type 0} → (V → ℕ) → Heap V → ℕ → ℕ
 size_at size h k = size_of size (value h k)
 
--- If `len` is a sum of sizes modulo 2^64, then `len'` is, modulo 2^64, this sum with `is` in place
--- of the size `was`.
+-- If `len` is a sum of sizes modulo 2^64, and one of these sizes changes from `was` to `is`, `len'`
+-- is the new sum modulo 2^64.
 abbrev pub Recounts : (was is len len' : ℕ) → Type 0
 Recounts was is len len' =
     (sum sum' : ℕ) → sum' + was ≡ sum + is → len ≡ sum % 2 ^ 64 → len' ≡ sum' % 2 ^ 64

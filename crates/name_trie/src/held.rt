@@ -15,7 +15,7 @@ use slab::Slab;
 use std::alloc::Global;
 use timers::Timers;
 
-/// Removes the nodes that exist only for the reserved name in `held`, if there is one. Never
+/// If `held` is the reservation of a name, removes the nodes that exist only for this name. Never
 /// removes the node `kept`.
 pub fn release<V: Drop>(
     nodes: &mut Slab<Node<V>>,
@@ -142,7 +142,7 @@ pub fn release_other<V: Drop>(
 }
 
 /// Returns the node of `name`. Missing nodes are created, as by `make_path`. If a name is reserved,
-/// it must be `name`. The reserved node is then returned without a walk.
+/// this name must be `name`, and the reserved node is returned without a walk.
 fn path_to<V: Drop>(
     alloc: Global,
     nodes: &mut Slab<Node<V>>,

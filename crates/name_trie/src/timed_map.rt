@@ -32,7 +32,7 @@ pub struct TimedMap<V: Timed> {
     // node is not removed. `get`, `change` and `put_with` of the reserved name find this node
     // without a walk.
     held: Option<(NameBuf, usize)>,
-    // Whether a call is prepared and has not been made yet.
+    // Whether a call is prepared. Each `put_with`, of any name, ends the preparation.
     is_ready: bool,
     // The timers, one for each value. While a call is prepared, memory is reserved for one more
     // timer.

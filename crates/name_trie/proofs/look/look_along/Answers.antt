@@ -27,8 +27,8 @@ loop-next-preserved g c =
           ∙ ap (taken_along own below c.loop-next.look (lookup h root) path.0) (sym c.in-Some-next.ensures.steps) ∙ path.3,
     )
 
--- The visitor has seen all values along the name. The walk stopped at a prefix that leads to no
--- node, so no name that begins with this prefix has a value.
+-- The walk stopped at a prefix of the name that leads to no node, so no name that begins with this
+-- prefix has a value. Hence the visitor has seen all values along the name.
 pub returns : goal.returns
 returns g c =
     let own = g.L.Look.seen true in

@@ -33,8 +33,8 @@ loop-next-preserved g c =
       small = c.loop-next.invariant.small;
     }
 
--- The visitor has seen all values along the name. The walk stopped at a prefix that leads to no
--- node, so no name that begins with this prefix has a value.
+-- The walk stopped at a prefix of the name that leads to no node, so no name that begins with this
+-- prefix has a value. Hence the visitor has seen all values along the name.
 pub returns-clause-seen : goal.returns-clause-seen
 returns-clause-seen g c =
     let seen = g.S.See.seen in

@@ -18,8 +18,8 @@ inserted c =
     let absent = rw (c.as_slice.ensures, c.view.ensures) at c.in-Err.ensures.absent in
     c.in_ok-insert-in-Err.ensures.ok ∙ sym (absent.1 c.args.child)
 
--- the search does not find the component, since the contract requires that the component has no
--- child
+-- `place_of` finds no row of the component, since the contract requires that there is no child for
+-- the component
 pub unreachable-requires : goal.unreachable-requires
 unreachable-requires c =
     let found = rw (c.as_slice.ensures, c.view.ensures) at c.in-Ok.ensures.found in
