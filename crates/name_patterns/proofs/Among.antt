@@ -1,4 +1,5 @@
--- A component is in a list of component texts if the component equals the text at some index.
+-- A component is in a list of component texts if the component equals the component of the text at
+-- some index.
 use Rattle.std.proofs.Common.{◌≡◌, ℕ, zero, suc, ◌<◌, true, ◌&&◌, eqb, List, [], ◌∷◌, length, map, get_or, arith}
 use Rattle.std.specs.Prelude.{bytes_eq}
 use Rattle.std.proofs.lemmas.Bool.{or_left, or_right}

@@ -1,5 +1,5 @@
--- The positions from which an atom and the later atoms can match, computed for each number of
--- components that the atom can take.
+-- The positions from which an atom and the later atoms can match all remaining components, computed
+-- for each number of components that the atom can take.
 use Rattle.std.proofs.Common.{◌≡◌, ℕ, zero, suc, ◌+◌, ◌/◌, ◌^◌, ◌<◌, ◌≤◌, Bool, true, false, not, ◌&&◌, ◌||◌, ltb, List, [], ◌∷◌, length, drop, length-drop, Option, Some, None, is_some, refl, sym, ◌∙◌, ap, arith, add-one, inl, inr, true≢false}
 use Rattle.std.specs.Prelude.{slice_get}
 use Rattle.std.specs.Int.RustNames.{bit_and, bit_or}
@@ -24,7 +24,7 @@ abbrev pub takes_some : ℕ → ℕ → ℕ → ℕ → ℕ → Bool
 takes_some passed after place least zero = false
 takes_some passed after place least (suc n) = takes_some passed after place least n || (not (ltb n least) && takes passed after place n)
 
--- ---- one more count
+-- ---- one step of the loop in `split_before`, from the count n to the count n + 1
 
 pub takes_step : (passed after begins n : ℕ) → ((p : ℕ) → has_place begins p ≡ takes passed after p n)
     → (p : ℕ) → has_place (bit_and passed (begins / 2 ^ 1)) p ≡ takes passed after p (n + 1)
@@ -50,7 +50,7 @@ pub few_step : (passed after split least n : ℕ) → ((p : ℕ) → has_place s
 few_step passed after split least n some few p =
     rw (add-one, lt-ltb n least few) (some p ∙ sym (or_false (takes_some passed after p least n)))
 
--- ---- no more counts are possible
+-- ---- if `takes` is false at all positions for the count n, `takes` is false for all counts m > n
 
 none_after : (passed after n m : ℕ) → ((p : ℕ) → takes passed after p n ≡ false) → n ≤ m → (p : ℕ) → takes passed after p m ≡ false
 none_after passed after n zero none low p = let n_is : n ≡ 0 = omega arith in rw n_is at (none p)
@@ -71,7 +71,7 @@ no_more passed after least n (suc m) none low p =
           (no_more passed after least n m none (omega arith) p)
     ]
 
--- ---- what the counts mean
+-- ---- the counts that `takes` allows are the possible counts of the first atom
 
 found_in : (passed after place least n : ℕ) → takes_some passed after place least n ≡ true
     → (k : ℕ) × (least ≤ k) × (k < n) × (takes passed after place k ≡ true)
@@ -117,7 +117,7 @@ passing test cs passed place are there =
     ]
 
 -- if `takes` is true for the position `place` and the count `k`, at least `k` consecutive
--- components pass from `place` on, and the later atoms have a split after these `k` components
+-- components pass `test` from `place` on, and `after` has the position after these `k` components
 taken_of_run : (test : PlainTest) (cs : List Field) (passed after place k : ℕ) → ArePassed test cs passed → takes passed after place k ≡ true
     → (k ≤ run_of test (drop place cs)) × (has_place after (place + k) ≡ true)
 taken_of_run test cs passed after place zero are e = let is : place + 0 ≡ place = omega arith in (omega arith, rw is e)

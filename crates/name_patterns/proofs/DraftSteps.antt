@@ -13,7 +13,7 @@ use Rattle.name_patterns.specs.Faults.{read_at}
 use Rattle.name_patterns.specs.PatternReading.{FrontPart, begins_repeat, atom_in, PlainDraft, with_atom, with_open, with_closed, with_item, with_implied, IsDraft}
 use Rattle.name_patterns.proofs.Steps.{done_unless, done_is}
 
--- ---- what an item has added
+-- ---- the draft after an atom is added, or a group is opened or closed
 
 abbrev pub atom_added : PlainDraft → PlainAtom → PlainDraft
 atom_added draft atom = record draft { atoms = draft.atoms ++ atom ∷ []; written = draft.written + 1 }

@@ -1,4 +1,4 @@
--- What the parts of a template expand to, one after another.
+-- What the parts of a template expand to, in order.
 use Rattle.std.proofs.Common.{◌≡◌, ℕ, zero, suc, ◌+◌, ◌-◌, ◌<◌, ◌≤◌, List, [], ◌∷◌, length, map, take, drop, get_or, true, false, ltb, Option, Some, None, refl, sym, ap, ◌∙◌, subst, arith}
 use Rattle.std.specs.Prelude.{slice_get, IsSomeAnd}
 use Rattle.std.specs.List.{sum_by, AllByRecursion}
@@ -11,7 +11,7 @@ use Rattle.ndn_tlv.specs.Element.{Field}
 use Rattle.name_patterns.specs.Pattern.{LiesIn}
 use Rattle.name_patterns.specs.Template.{PlainPart, OfGroup, Single, between, part_of, part_len, expansion_of, IsThere, AreThere, CanStand}
 
--- ---- the length of the name that a template makes
+-- ---- the length of the name that a template expands to
 
 pub between_len : (cs : List Field) (places : ℕ × ℕ) → LiesIn (length cs) places → length (between cs places) ≡ places.1 - places.0
 between_len cs places h =
@@ -36,7 +36,8 @@ expansion_length captures cs (part ∷ parts) h =
     ∙ (λ i. part_length captures cs part h.0 i + expansion_length captures cs parts h.1 i)
     ∙ sym (sum_by-cons (part_len captures) part parts)
 
--- if the lengths of the parts add up to more than 64, the name has more than 64 components
+-- if the lengths of a template's parts add up to more than 64, the name that the template expands
+-- to has more than 64 components
 pub is_long : (captures : List (ℕ × ℕ)) (cs : List Field) (parts : List PlainPart) → AreThere captures cs parts
     → true ≡ ltb 64 (sum_by (part_len captures) parts) → 64 < length (expansion_of parts captures cs)
 is_long captures cs parts h e =

@@ -94,8 +94,8 @@ whole_group atoms groups more items after =
     ∙ ap (λ (n : ℕ). groups ++ ((length atoms, n) ∷ groups_from n items)) (length-append atoms more) in
     λ i. record { atoms = all i; groups = places i }
 
--- `pattern` is `atoms` and `groups`, followed by the atoms and groups that `text` denotes, where no
--- group is open at the front of `text`. The pattern has at most 32 written atoms and at most 9
+-- No group is open at the front of `text`. `pattern` consists of `atoms` and `groups`, followed by
+-- the atoms and groups that `text` denotes. The pattern has at most 32 written atoms and at most 9
 -- groups.
 record IsRest (atoms : List PlainAtom) (written : ℕ) (groups : List (ℕ × ℕ)) (text : List ℕ) (pattern : PlainPattern) : Type 0 where
   middle : List ℕ
@@ -109,8 +109,8 @@ record IsRest (atoms : List PlainAtom) (written : ℕ) (groups : List (ℕ × �
   few_atoms : written + length (flat_map item_atoms items) ≤ 32
   few_groups : length pattern.groups ≤ 9
 
--- `text` begins inside a group that has `first` atoms before it. `text` consists of the remaining
--- atoms of the group, the closing parenthesis, and a text that completes the pattern.
+-- `text` begins inside a group, and `first` atoms come before this group. `text` consists of the
+-- remaining atoms of the group, the closing parenthesis, and a text that completes the pattern.
 abbrev IsInGroup : ℕ → List PlainAtom → ℕ → List (ℕ × ℕ) → List ℕ → PlainPattern → Type 0
 IsInGroup first atoms written groups text pattern =
     (inner rest : List ℕ) × (more : List PlainAtom) × (text ≡ inner ++ (41 ∷ rest)) × AreAtoms inner more
@@ -201,7 +201,7 @@ abbrev HasRoom : PlainDraft → Option OpenGroup → Type 0
 HasRoom draft None = (draft.written ≤ 32) × (length draft.groups ≤ 9)
 HasRoom draft (Some group) = (draft.written ≤ 32) × (length draft.groups < 9)
 
--- A step from `draft` and `text` leaves a shorter text and a draft within its limits. If the
+-- A step from `draft` and `text` leaves a shorter text and a draft that satisfies `HasRoom`. If the
 -- remaining text completes a pattern from the new draft, `text` completes this pattern from
 -- `draft`.
 record IsStep (draft : PlainDraft) (text : List ℕ) (next : PlainDraft × List ℕ) : Type 0 where

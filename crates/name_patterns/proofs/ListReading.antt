@@ -27,7 +27,7 @@ listed_nothing text = (length text, omega arith, sym (nothing (listed_within (le
     nothing (Some others) = refl
 
 -- if `rest` begins with a quoted text, the list in `rest` is the component of this text, followed
--- by the components of the texts after it
+-- by the components of the texts after this text
 listed_more : (n : ℕ) (rest front after : List ℕ) → quoted_in rest ≡ Some (front, after)
     → listed_within (suc n) rest ≡ (text_in front >>= λ c. before_others (c ∷ []) (has_special front) (listed_within n after))
 unfolding listed_within

@@ -16,8 +16,8 @@ use Rattle.name_patterns.proofs.Walk.{some_of}
 start_at : (atoms : List PlainAtom) (counts starts : List ℕ) (i : ℕ) → AreStarts atoms counts starts → i ≤ length atoms → slice_index starts i ≡ sum (take i counts)
 start_at atoms counts starts i are low = get_or_from_slice_get starts i (sum (take i counts)) 0 (are i low)
 
--- for each group, `group_places` computes the positions in `starts` at which the group begins and
--- ends
+-- the positions that `starts` has for the beginning and the end of each group are those that
+-- `group_places` computes from the counts
 groups_are : (atoms : List PlainAtom) (counts starts : List ℕ) (groups : List (ℕ × ℕ)) → AreStarts atoms counts starts → AllByRecursion (LiesIn (length atoms)) groups
     → map (λ (group : ℕ × ℕ). (slice_index starts group.0, slice_index starts group.1)) groups ≡ map (group_places counts) groups
 groups_are atoms counts starts [] are all = refl
@@ -25,7 +25,8 @@ groups_are atoms counts starts (group ∷ groups) are all =
     rw (start_at atoms counts starts group.0 are (omega (arith, all.0.0, all.0.1)), start_at atoms counts starts group.1 are all.0.1, groups_are atoms counts starts groups are all.1) refl
 
 -- if `greedy` returns counts, and `starts` are the positions for these counts, the pattern matches
--- the name, and its groups are at the positions `captures`, which are computed from `starts`
+-- the name, and `captures`, which is computed from `starts`, has the positions of the pattern's
+-- groups
 pub matched : (pattern : PlainPattern) (cs : List Field) (starts : List ℕ) (len : ℕ) (captures : List (ℕ × ℕ)) → IsSomeAnd (greedy pattern.atoms cs) (λ counts. AreStarts pattern.atoms counts starts)
     → AllByRecursion (LiesIn (length pattern.atoms)) pattern.groups → len ≡ length cs
     → captures ≡ (0, len) ∷ map (λ (group : ℕ × ℕ). (slice_index starts group.0, slice_index starts group.1)) pattern.groups → Match pattern cs captures

@@ -165,7 +165,7 @@ greatest_none can least (suc n) none =
           (greatest_none can least n (λ j low high. none j low (omega arith)))
     ]
 
--- ---- the greatest position of a set that is at most `end`
+-- ---- the greatest of those positions of a set that are at most `end`
 
 bit_of_mod : (n w i : ℕ) → i < w → bit_at (n % 2 ^ w) i ≡ bit_at n i
 bit_of_mod n w i low =
@@ -189,8 +189,8 @@ top_bit a m high low =
     swapped : 1 + m ≡ m + 1
     swapped = omega arith
 
--- `end` minus the greatest position of the set that is at most `end`, or 128 if no position of
--- the set is at most `end`
+-- `end` minus the greatest of those positions of the set that are at most `end`, or 128 if no
+-- position of the set is at most `end`
 abbrev pub skipped : ℕ → ℕ → ℕ
 skipped places end = count_leading_zeros 128 (places * 2 ^ (127 - end) % 2 ^ 128)
 
@@ -233,7 +233,7 @@ greatest_not_taken places place least most low skips =
     greatest_none (λ count. has_place places (place + count)) least most
     (λ j from high. none_later places (place + most) (place + j) low (omega arith) (omega arith))
 
--- ---- the test that each component passes
+-- ---- the positions of the components that pass the test `Anything`
 
 pub all_passed : (cs : List Field) (len : ℕ) → len ≤ 64 → len ≡ length cs → ArePassed Anything cs (1 * 2 ^ len % 2 ^ 128 - 1)
 all_passed cs len low len_is place =

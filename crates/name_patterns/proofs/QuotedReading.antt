@@ -45,7 +45,7 @@ text_none text c h = plain_none text h.0
 pub text_some : (text : List ℕ) (c : Field) → IsText text c → 0 < length text
 text_some text c h = (piece_shape text c h.1).0
 
--- ---- between < and >
+-- ---- texts between < and >
 
 pub quoted_found : (text : List ℕ) (parts : List ℕ × List ℕ) → quoted_in text ≡ Some parts → (text ≡ (codes "<" ++ (parts.0 ++ codes ">")) ++ parts.1) × Lacks 62 parts.0
 quoted_found [] parts e = absurd cc

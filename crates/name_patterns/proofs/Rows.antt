@@ -11,7 +11,7 @@ use Rattle.name_patterns.specs.Pattern.{Bounds, PlainTest, PlainAtom}
 use Rattle.name_patterns.proofs.Places.{no_place, greatest_none}
 use Rattle.name_patterns.specs.Greedy.{passes, at_most, run_of, greatest, first_count, has_place, passes_there, ArePassed, AreSplit, IsRow}
 
--- ---- one element is replaced
+-- ---- replacing one element of a list
 
 pub set_same : {X : Type 0} (xs : List X) (i : ℕ) (v : X) → i < length xs → slice_get (slice_set xs i v) i ≡ Some v
 set_same [] i v h = absurd (omega arith)
@@ -62,9 +62,9 @@ at_most_low : (most : Option ℕ) (n : ℕ) → at_most most n ≤ n
 at_most_low None n = omega arith
 at_most_low (Some most) n = omega arith
 
--- If the later atoms have a split from exactly the positions in `after`, the first count of an
--- atom is the greatest count with three properties: it is within the atom's bounds, it is at most
--- the run of passing components, and it leads to a position in `after`.
+-- If the later atoms have a split from exactly the positions in `after`, the first count of an atom
+-- is the greatest count with three properties: it is within the atom's bounds, it is at most the
+-- length of the run of passing components, and it leads to a position in `after`.
 pub count_by_places : (atom : PlainAtom) (atoms : List PlainAtom) (cs : List Field) (bounds : Bounds) (after place run : ℕ)
     → bounds ≡ atom.bounds → AreSplit atoms cs after → run ≡ run_of atom.test (drop place cs) → place ≤ length cs
     → greatest (λ count. has_place after (place + count)) bounds.least (at_most bounds.most run) ≡ first_count (atom ∷ atoms) (drop place cs)

@@ -49,7 +49,7 @@ passed (NoneOf cs) c = (
   ]),
 )
 
--- ---- runs of components that pass
+-- ---- runs of components that pass a test
 
 pub run_found : (t : PlainTest) (cs : List Field) (k : ℕ) → k ≤ run_of t cs → (k ≤ length cs) × AllByRecursion (Passes t) (take k cs)
 run_found t cs zero h = (omega arith, tt)
@@ -182,10 +182,9 @@ some_splits atoms cs (Some k) counts h split = refl
 abbrev AreSearched : List PlainAtom → Type 0
 AreSearched atoms = (cs : List Field) → IsSearched atoms cs (first_count atoms cs)
 
--- If `count ∷ counts` is a split, `count` is at most the upper bound of `atom`, if `atom` has an
--- upper bound. `count` is also at most the number of components before the first component that
--- fails the test of `atom`. The other atoms have a split of the components that follow the first
--- `count` components.
+-- Let `count ∷ counts` be a split. If `atom` has an upper bound, `count` is at most this bound.
+-- `count` is also at most the number of leading components that pass the test of `atom`. The other
+-- atoms have a split of the components that follow the first `count` components.
 taken : (atom : PlainAtom) (atoms : List PlainAtom) (cs : List Field) (count : ℕ) (counts : List ℕ) → AreSearched atoms → IsSplit (atom ∷ atoms) cs (count ∷ counts)
     → (count ≤ at_most atom.bounds.most (run_of atom.test cs)) × (is_some (first_count atoms (drop count cs)) ≡ true)
 taken atom atoms cs count counts following split = (

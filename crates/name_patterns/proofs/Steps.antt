@@ -1,4 +1,4 @@
--- Readings in steps, each of which may fail.
+-- Readings that consist of steps. Each step may fail.
 use Rattle.std.proofs.Common.{◌≡◌, ℕ, Bool, true, false, cond, Option, Some, None, Result, Ok, Err, refl, inl, inr}
 use Rattle.name_patterns.specs.declared.fault.PatternFault.{PatternFault}
 use Rattle.name_patterns.specs.declared.fault.PatternFault.TheVariants.{Syntax}

@@ -33,7 +33,7 @@ digit_again n text h =
     let is : 48 + n - 48 ≡ n = omega arith in
     rw (le-leb 48 (48 + n) (omega arith), le-leb (48 + n) 57 (omega arith), is) refl
 
--- the text begins with the text of a part, which is not empty, followed by the remaining text
+-- the text begins with the nonempty text of a part, followed by the remaining text
 abbrev IsFront : ℕ → List ℕ → PlainPart × List ℕ → Type 0
 IsFront groups text found = (front : List ℕ) × (text ≡ front ++ found.1) × (0 < length front) × IsPart groups front found.0
 

@@ -22,7 +22,7 @@ end_found (o ∷ text) found e =
     given_to (IsListed (o ∷ text)) (record { part = []; is_inner = false; rest = text }) found p.1
     ([], ap (λ (first : ℕ). first ∷ text) (eqb-true o 93 p.0), refl)
 
--- if the later texts of a list are in the grammar, so is the list with one more text in front
+-- if a list is in the grammar, the list with one more quoted text in front is in the grammar too
 before_listed : (text : List ℕ) (quoted : List ℕ × List ℕ) (c : Field) (others found : FrontPart (List Field)) → quoted_in text ≡ Some quoted → text_in quoted.0 ≡ Some c
     → given (record { part = c ∷ others.part; is_inner = has_special quoted.0 || others.is_inner; rest = others.rest }) ≡ given found → found.is_inner ≡ false
     → (others.is_inner ≡ false → IsListed quoted.1 others) → IsListed text found

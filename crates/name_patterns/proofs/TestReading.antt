@@ -9,7 +9,8 @@ use Rattle.name_patterns.specs.PatternReading.{FrontPart, listed_within, list_in
 use Rattle.name_patterns.proofs.Steps.{fault_on}
 use Rattle.name_patterns.proofs.TextParts.{BeginsNot, first_other}
 
--- which test a list of components makes: `NoneOf` for a list that begins with `[^`, else `OneOf`
+-- the test that a list of components makes: `NoneOf` if the text of the list begins with `[^`, else
+-- `OneOf`
 abbrev pub list_test : Bool → List Field → PlainTest
 list_test true = NoneOf
 list_test false = OneOf

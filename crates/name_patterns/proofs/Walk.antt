@@ -32,7 +32,8 @@ pub row_split : (atoms : List PlainAtom) (cs : List Field) (row : Row) → IsRow
 row_split [] cs row is = is
 row_split (atom ∷ atoms) cs row is = is.2
 
--- `row` is the row of the first atom of `atoms`, and `after` is the row of the atoms `later`.
+-- `atoms` is `atom` followed by `later`. `row.passed` are the positions of the components that pass
+-- the test of `atom`, and `after.split` are the positions from which `later` has a split.
 pub record IsAtomRow (atom : PlainAtom) (atoms later : List PlainAtom) (cs : List Field) (row after : Row) : Type 0 where
   pub cut : atoms ≡ atom ∷ later
   pub passed : ArePassed atom.test cs row.passed
@@ -106,8 +107,9 @@ walk_step atoms cs i place starts done k w low room e =
     take_step atoms cs i place starts done k w room (omega (arith, length-drop place cs, left, w.fits))
     (rw a.1 (greedy_some done a.0 (drop (i + 1) atoms) (drop place cs) k first ∙ rw moved refl))
 
--- if the atom at index `i` matches exactly one component, and the component at position `i` fails
--- the atom's test or is missing, there is no split
+-- let `IsTaken` hold for the first `i` atoms and the first `i` components; if the atom at index `i`
+-- matches exactly one component, and the component at position `i` fails the atom's test or is
+-- missing, there is no split
 pub single_none : (atoms : List PlainAtom) (cs : List Field) (i : ℕ) (starts done : List ℕ) (atom : PlainAtom) → IsTaken atoms cs i i starts done
     → drop i atoms ≡ atom ∷ drop (i + 1) atoms → atom.bounds ≡ once → run_of atom.test (drop i cs) ≡ 0 → greedy atoms cs ≡ None
 single_none atoms cs i starts done atom w cut once_is no_run =
@@ -124,8 +126,8 @@ drop_next (y ∷ xs) (suc i) x rest e =
     let next : suc i + 1 ≡ suc (i + 1) = omega arith in
     (rw next more.0, omega (arith, more.1))
 
--- if an atom matches exactly one component, and the next component passes the atom's test,
--- `IsTaken` also holds after the count 1 is added to the counts `done`
+-- if the atom at index `i` matches exactly one component, and the component at position `i` passes
+-- the atom's test, `IsTaken` also holds after the count 1 is added to the counts `done`
 pub single_step : (atoms : List PlainAtom) (cs : List Field) (i : ℕ) (starts done : List ℕ) (atom : PlainAtom) (c : Field) → IsTaken atoms cs i i starts done
     → drop i atoms ≡ atom ∷ drop (i + 1) atoms → drop i cs ≡ c ∷ drop (i + 1) cs → i + 1 < length starts → i + 1 ≤ length cs
     → atom.bounds ≡ once → passes atom.test c ≡ true → IsTaken atoms cs (i + 1) (i + 1) (slice_set starts (i + 1) (i + 1)) (done ++ 1 ∷ [])

@@ -106,8 +106,8 @@ groups_from n (Group atoms ∷ items) = (n, n + length atoms) ∷ groups_from (n
 abbrev pub IsAnchor : List ℕ → List ℕ → List PlainAtom → Type 0
 IsAnchor sign text atoms = ((text ≡ sign) × (atoms ≡ [])) ⊎ ((text ≡ []) × (atoms ≡ anything ∷ []))
 
--- The text denotes the pattern: items between anchors, with at most 32 written atoms and at most 9
--- groups.
+-- The text denotes the pattern: items between two optional anchors, with at most 32 written atoms
+-- and at most 9 groups.
 pub record IsPattern (text : List ℕ) (pattern : PlainPattern) : Type 0 where
   pub start : List ℕ
   pub middle : List ℕ

@@ -82,7 +82,8 @@ abbrev pub IsTable : ℕ → List PlainAtom → List Field → List Row → Type
 IsTable first atoms cs rows =
     (i : ℕ) → first ≤ i → i ≤ length atoms → IsSomeAnd (slice_get rows i) (IsRow (drop i atoms) cs)
 
--- `starts` are the positions before each atom and after the last one, given the counts of the atoms
+-- `starts` are the positions before each atom and after the last atom, given the counts of the
+-- atoms
 abbrev pub AreStarts : List PlainAtom → List ℕ → List ℕ → Type 0
 AreStarts atoms counts starts =
     (i : ℕ) → i ≤ length atoms → slice_get starts i ≡ Some (sum (take i counts))

@@ -49,7 +49,8 @@ group_places counts group = (sum (take group.0 counts), sum (take group.1 counts
 abbrev pub places_of : PlainPattern → List Field → List ℕ → List (ℕ × ℕ)
 places_of pattern cs counts = (0, length cs) ∷ map (group_places counts) pattern.groups
 
--- the pattern matches the name with these components, and its groups are at these positions
+-- the pattern matches the name with these components, and the pattern's groups are at these
+-- positions
 abbrev pub Match : PlainPattern → List Field → List (ℕ × ℕ) → Type 0
 Match pattern cs places =
     (counts : List ℕ) × IsGreatestSplit pattern.atoms cs counts

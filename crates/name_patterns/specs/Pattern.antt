@@ -30,7 +30,7 @@ pub record PlainAtom : Type 0 where
 abbrev pub anything : PlainAtom
 anything = record { test = Anything; bounds = any_number }
 
--- A pattern: its atoms in order, including implied ones, and its groups. A group is a pair: the
+-- A pattern: its atoms in order, including implied atoms, and its groups. A group is a pair: the
 -- number of atoms before its first atom, and the number of atoms before its end.
 pub record PlainPattern : Type 0 where
   pub atoms : List PlainAtom

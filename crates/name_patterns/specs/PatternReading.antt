@@ -35,7 +35,8 @@ pub record FrontPart (A : Type 0) : Type 0 where
   pub rest : List ℕ
 
 -- The text between < at the front and the first > after it, and the remaining text. The text
--- between < and > may be empty. The result is `None` if < or > is missing.
+-- between < and > may be empty. The result is `None` if the text does not begin with <, or if no >
+-- follows.
 abbrev pub quoted_in : List ℕ → Option (List ℕ × List ℕ)
 quoted_in [] = None
 quoted_in (o ∷ text) = if o == 60 then cut_at 62 text else None
@@ -167,8 +168,8 @@ pub record PlainDraft : Type 0 where
   pub open_group : Option OpenGroup
 
 -- The draft with the atom at offset `at` added, and the text after this atom. The fault is `Syntax`
--- if there is no atom, or if the atom is the 33rd. The fault is `Inner` if a component's text in
--- the atom contains a special character.
+-- if there is no atom, or if the atom is the 33rd. Otherwise, the fault is `Inner` if a component's
+-- text in the atom contains a special character.
 abbrev pub with_atom : PlainDraft → ℕ → List ℕ → Result (PlainDraft × List ℕ) PatternFault
 with_atom draft at text = on_result
     (λ found.
@@ -185,7 +186,7 @@ with_atom draft at text = on_result
 
 -- The draft in which the opening parenthesis at offset `at` has opened a group, and `text`, which
 -- is the text after this parenthesis. The fault is `Nested` if a group is already open, and
--- `BadGroup` if there are already nine groups.
+-- otherwise `BadGroup` if there are already nine groups.
 abbrev pub with_open : PlainDraft → ℕ → List ℕ → Option OpenGroup
     → Result (PlainDraft × List ℕ) PatternFault
 with_open draft at text (Some group) = Err (Nested at)
@@ -236,6 +237,7 @@ is_closed is_inside (o ∷ text) =
 
 -- The fault to report when the item at the front of the text has the fault `fault`. If a group is
 -- open and never closed, the fault to report is `Syntax` at the opening parenthesis of this group.
+-- Otherwise the fault to report is `fault`.
 abbrev pub first_fault : Option OpenGroup → List ℕ → PatternFault → PatternFault
 first_fault None text fault = fault
 first_fault (Some group) text fault = if is_closed false text then fault else Syntax group.place

@@ -23,7 +23,7 @@ pub type Starts = [usize; MAX_STARTS];
 /// last component, also counts as a position.
 type Places = u128;
 
-/// What the search knows about an atom.
+/// What the search knows about an atom or about the end.
 #[derive(Clone, Copy)]
 struct Row {
     /// The positions of the components that pass the atom's test.
@@ -134,8 +134,8 @@ fn split_before(repeat: Repeat, passed: Places, after: Places) -> Places
         → length cs ≤ 64 → AreSplit (atom ∷ atoms) cs result }
 {
     let most = most_of(repeat, MAX_COUNT);
-    // From each position in `begins` on, `count` components pass, and the later atoms can match all
-    // components after these.
+    // `begins` are the positions from which `count` components pass, such that the later atoms can
+    // match all components after these `count` components.
     let mut begins = after;
     let mut split = 0;
     for count in 0..most + 1 {

@@ -76,7 +76,7 @@ impl Template {
         captures: &Captures,
         name: Name<'_>,
     ) -> Result<NameBuf, NameFault>
-        // Each group of the template is among the captures, and lies within the name.
+        // The captures contain each group of the template, at positions within the name.
         requires { AreThere captures.now (components name) self.now }
         ensures ok { IfOk result
             (λ expanded. expanded ≡ expansion_of self.now captures.now (components name.entry)) }

@@ -56,7 +56,7 @@ pub fn has_special(text: &str) -> bool
 }
 
 /// Returns the text between `<` at the front and the first `>`, and the remaining text. Returns
-/// `None` if the text does not begin with `<` or contains no `>`.
+/// `None` if the text does not begin with `<`, or if the text contains no `>`.
 pub fn first_quoted(text: &str) -> Option<(&str, &str)>
     ensures read { option_map (λ parts. (parts.0.now, parts.1.now)) result
         ≡ read.quoted_in text.now }
