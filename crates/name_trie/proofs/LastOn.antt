@@ -19,8 +19,8 @@ module _ {X : Type 0} where
   or_nothing (Some x) = refl
 
 module _ {V : Type 0} (h : Heap V) where
-  -- The value of the longest prefix of `name` that has a value, among the prefixes of at most n
-  -- components. Walks along the prefixes begin at the node `o`.
+  -- Of the prefixes of `name` that have at most n components and a value: the value of the longest
+  -- one. Walks along the prefixes begin at the node `o`.
   abbrev within : Option ℕ → List Field → ℕ → Option V
   within o name zero = lookup h o []
   within o name (suc n) = option_or (lookup h o (take (suc n) name)) (within o name n)
