@@ -96,7 +96,7 @@ after_causes [] key r = r
 after_causes (cause ∷ causes) key r = after_causes causes key (records_after cause key r)
 
 -- `before_earlier causes earlier` is `causes` in reverse order, followed by `earlier`; so the
--- latest cause is the first
+-- latest cause comes first
 abbrev pub before_earlier : List Cause → List Cause → List Cause
 before_earlier [] earlier = earlier
 before_earlier (cause ∷ causes) earlier = before_earlier causes (cause ∷ earlier)

@@ -1,5 +1,5 @@
--- How the maps in a node's state are encoded (routes, strategies, replay guard and pending
--- Interests), so that the state is plain data.
+-- How the maps in a node's state (routes, strategies, replay guard and pending Interests) are
+-- encoded, so that the state is plain data.
 use Rattle.std.specs.Coded.{Coded}
 use Rattle.std.specs.FinMap as map
 use Rattle.ndn_packets.specs.Key.{key_code}

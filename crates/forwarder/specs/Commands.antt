@@ -1,6 +1,6 @@
 -- How commands are answered, and what they change (NFD Management, "Control Command"). An allowed
--- command with a SignatureTime is answered and recorded in one step, whatever its status. A command
--- without a SignatureTime is answered, but not recorded.
+-- command is answered and recorded in one step, whatever its status. A command that is not allowed
+-- is answered, but not recorded. A command without a SignatureTime is never allowed.
 use Rattle.std.specs.Prelude.{◌≡◌, ℕ, List, [], ◌∷◌, ◌++◌, length, Bool, Option, None, Some, unwrap_or, slice_get, codes, nat_lt, ◌||◌, Result, Ok, Err, if◌then◌else◌}
 use Rattle.std.specs.Option.{option_map}
 use Rattle.std.specs.FinMap as map

@@ -54,9 +54,9 @@ decided_packet p (FaceDown face now) = None
 decided_packet p (Tick now) = None
 decided_packet p (NewRules rules keys now) = None
 
--- The policy after an allowed packet. A command has its effect and is recorded, and a Data is
--- stored if the repository wants it. A Nack changes nothing, and a link packet without a packet
--- changes nothing.
+-- The policy after an allowed packet. A command has its effect and is recorded. If the repository
+-- wants a Data, the Data is stored, and the wants that the Data answers are removed. Neither a Nack
+-- nor a link packet without a packet changes anything.
 abbrev pub after_packet : Policy → ℕ → PlainFrame → Policy
 after_packet p face (AnInterest whole i) = after_allowed p face i
 after_packet p face (AData whole d) =

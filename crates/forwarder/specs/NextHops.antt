@@ -34,8 +34,9 @@ strategy_for p name = unwrap_or (longest p.choices name) BestRoute
 abbrev pub hops_for : Policy → List Field → List Hop
 hops_for p name = marked (local_faces p) (longest_hops p.routes name)
 
--- the choice of the name's strategy for an Interest of this name; `asked` has, for each face, the
--- moment at which an Interest with the same PIT key as this Interest was last sent to the face
+-- the choice of the name's strategy for an Interest of this name; `asked` has, for each face with
+-- an out-record of this Interest's PIT key, the moment at which an Interest of this key was last
+-- sent to the face; for the node's own Interests, `asked` is empty
 abbrev pub choice_for : Policy → List Field → ByFace → Ask → Choice
 choice_for p name asked ask =
     chosen (selection_of (strategy_for p name)) (hops_for p name) asked ask

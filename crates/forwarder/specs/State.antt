@@ -42,7 +42,7 @@ pub record IsSound (s : NodeState) : Type 0 where
 
 -- `new` is the node `old` once time has advanced to `moment`; the time stays if `moment` is earlier
 -- than the time of `old`. The in-records, routes and wants that expire by the new time were
--- removed, and the cache is unchanged.
+-- removed, as were the out-records of keys without in-records. The cache is unchanged.
 pub record IsLater (old : NodeState) (moment : ℕ) (new : NodeState) : Type 0 where
   pub policy : new.policy ≡ at_moment old.policy moment
   pub expiry : Follows (Expires (max old.policy.now moment)) old.pending new.pending

@@ -34,8 +34,8 @@ impl State {
     /// dropped. Any other Data that the rules allow is sent, without changes, to each face with a
     /// pending Interest for the Data, except the incoming face. This Data is offered to the cache
     /// if at least one face, possibly the incoming face, has a pending Interest for the Data. The
-    /// pending Interests that the Data answers are removed. The repository stores the Data if the
-    /// repository wants the Data.
+    /// pending Interests that the Data answers are removed. If the repository wants the Data, the
+    /// repository stores the Data and removes the pending inserts that the Data answers.
     pub fn receive_data(
         &mut self,
         arrived: &Arrived<'_, Data<'_>>,

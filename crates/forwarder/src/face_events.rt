@@ -36,9 +36,10 @@ impl State {
         Verdict::Passed
     }
 
-    /// Advances time to `now`. Then, if the face is open, closes the face, removes the face's next
-    /// hops, routes, in-records and out-records, and increases the version of the lists of routes
-    /// and strategies by 1, up to the greatest u64.
+    /// Advances time to `now`. Then, if the face is open, closes the face, and removes the face's
+    /// next hops, routes, in-records and out-records, and all out-records of keys that then have no
+    /// in-record. Also increases the version of the lists of routes and strategies by 1, up to the
+    /// greatest u64.
     pub fn close(&mut self, face: u64, now: u64) -> Verdict
         requires { IsSound (state_of self.old) }
         ensures { IsStep (state_of self.old) (FaceDown face now)

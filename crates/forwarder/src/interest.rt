@@ -58,9 +58,9 @@ impl State {
 
     /// Handles an Interest for Data. If the Interest loops, sends a Nack back. Otherwise, if the
     /// cache or the repository has a Data for the Interest, sends this Data back. If neither has
-    /// one, handles the Interest as `miss` specifies. Looks for the Data in the cache and the
-    /// repository before a PIT record is prepared, since an answer from the cache or the repository
-    /// needs no PIT record.
+    /// such a Data, handles the Interest as `miss` specifies. Looks for the Data in the cache and
+    /// the repository before a PIT record is prepared, since an answer from the cache or the
+    /// repository needs no PIT record.
     fn answer(
         &mut self,
         arrived: &Arrived<'_, Interest<'_>>,
@@ -146,10 +146,10 @@ impl State {
         Ok(Verdict::Passed)
     }
 
-    /// Forwards an Interest that neither the cache nor the repository answers (NFD Developer's
+    /// Handles an Interest that neither the cache nor the repository answers (NFD Developer's
     /// Guide, "Content Store Miss Pipeline"). Sends a Nack back if the Interest loops, or if no
-    /// next hop may get the Interest. Otherwise drops the Interest if its key is not in the PIT and
-    /// the PIT is full.
+    /// next hop may get the Interest. Otherwise forwards the Interest, or drops it if its key is
+    /// not in the PIT and the PIT is full.
     fn miss(
         &mut self,
         arrived: &Arrived<'_, Interest<'_>>,
@@ -210,7 +210,8 @@ impl State {
     /// Forwards an Interest, which neither the cache nor the repository answers, to the faces that
     /// the strategy of its name chooses. If no next hop may get the Interest, sends a Nack back,
     /// and removes the in-record of the incoming face `face` under the Interest's key, if there is
-    /// one. Otherwise drops the Interest if its key is not in the PIT and the PIT is full.
+    /// one (and the key's out-records, if no in-record of the key is left). Otherwise drops the
+    /// Interest if its key is not in the PIT and the PIT is full.
     fn forward(
         &mut self,
         face: u64,

@@ -97,9 +97,9 @@ pub fn refused_steps_stand_still()
         → ChangesCacheOnly old new → Stands first past new }
 {}
 
-/// Law: let no key book of two runs have two keys of the same name. If the two runs have the same
-/// events and start from the same policy, both runs lead to the same policy. Let the same event
-/// follow both runs. If the event brings a command, a request for a segment of a list, or an
+/// Law: let two runs start from the same policy and have the same events, and let no key book of
+/// the runs have two keys of the same name. Then both runs lead to the same policy. Let the same
+/// event follow both runs. If the event brings a command, a request for a segment of a list, or an
 /// Interest that is dropped because of its HopLimit or scope, each valid answer after one run
 /// equals each valid answer after the other run. If the event brings a Data, each valid answer
 /// after one run has the same verdict as each valid answer after the other run. If the same number

@@ -13,8 +13,9 @@ use strategies::{Ask, BestRoute, Choice, Multicast, Strategy};
 
 impl State {
     /// Returns the choice of the name's strategy for an Interest of this name (NFD Developer's
-    /// Guide, "Strategies"). `used` has, for each face, the moment at which an Interest with the
-    /// same PIT key as this Interest was last sent to the face.
+    /// Guide, "Strategies"). `used` has, for each face with an out-record of this Interest's PIT
+    /// key, the moment at which an Interest of this key was last sent to the face. For the node's
+    /// own Interests, `used` is empty.
     pub fn choose(&self, name: Name<'_>, used: &Used, ask: Ask) -> Choice
         ensures { result
             ≡ choice_for (policy_of self.entry.now) (components name.entry) used.now ask }

@@ -193,8 +193,8 @@ impl Node {
         }
     }
 
-    /// Returns whether the octets are a Data that answers a pending insert of the repository.
-    /// Inserts that expire as time advances to `now` do not count.
+    /// Returns whether the octets are read as a Data that answers a pending insert of the
+    /// repository. Inserts that expire as time advances to `now` do not count.
     fn wants_packet(&self, now: u64, octets: &[u8]) -> bool
         ensures { result ≡ is_wanted_packet (at_moment self.now.policy now) (frame_at octets.now) }
     {

@@ -376,8 +376,7 @@ fn written(done: Result<(), WriteFault>) -> Result<bool, Memory>
 }
 
 /// Appends an Interest to `out`. The HopLimit of the appended Interest, if there is one, is
-/// decremented.
-/// Appends nothing if memory runs out.
+/// decremented. Appends nothing if memory runs out.
 fn put_sent_on(out: &mut Vec<u8>, interest: &Interest<'_>) -> Result<(), Memory>
     requires hops { interest.now.hop_limit ≢ Some 0 }
     ensures ok { OnOk result (out.new.items

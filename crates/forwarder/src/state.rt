@@ -33,10 +33,11 @@ pub struct State {
 }
 
 impl State {
-    /// Sets the time to the greater of `self.now` and `moment`, and removes the in-records, routes
-    /// and pending inserts that expire by this time. Adds the number of removed routes to the
-    /// version of the lists of routes and strategies, up to the greatest u64. What was prepared in
-    /// the PIT, the tables, the guard and the repository stays prepared.
+    /// Sets the time to the greater of `self.now` and `moment`. Removes the in-records, routes and
+    /// pending inserts that expire by this time, and the out-records of keys that then have no
+    /// in-record. Adds the number of removed routes to the version of the lists of routes and
+    /// strategies, up to the greatest u64. What was prepared in the PIT, the tables, the guard and
+    /// the repository stays prepared.
     pub fn pass_time(&mut self, moment: u64)
         ensures later { IsLater (state_of self.old) moment (state_of self.new) }
         ensures pit { self.new.pit.prepared ≡ self.old.pit.prepared }
