@@ -82,7 +82,7 @@ pub length_held : (rows : List Placed) (used : List (ℕ × ℕ)) (next : ℕ) �
 length_held rows used next sound =
     length_all (held_in rows) used (all_map (LeadsTo rows) (λ u. IsSome (held_in rows u.1)) (some_held rows) used sound.there) ∙ sym sound.long
 
--- ---- one row is added
+-- ---- the addition of one row
 module _ (rows : List Placed) (used : List (ℕ × ℕ)) (s p at : ℕ) (row : Row) (sound : Sound rows used s) (absent : lookup (nat_eq p) rows ≡ None) (its : row.serial ≡ s)
     (le : at ≤ length rows) (valid : IsValidRows (insert rows at (p, row))) (data' : IsCachedData row.entry) where
   beside : (u : ℕ × ℕ) → LeadsTo rows u → lookup (nat_eq u.1) (insert rows at (p, row)) ≡ lookup (nat_eq u.1) rows
@@ -116,7 +116,7 @@ module _ (rows : List Placed) (used : List (ℕ × ℕ)) (s p at : ℕ) (row : R
       ∙ ap (λ l. row.entry ∷ l) (cached_kept (held_in rows) (held_in (insert rows at (p, row))) used
       (all_map (LeadsTo rows) (λ u. held_in (insert rows at (p, row)) u.1 ≡ held_in rows u.1) (λ u leads. ap (λ o. option_map (λ (r : Row). r.entry) o) (beside u leads)) used sound.there))
 
--- ---- one row is removed
+-- ---- the removal of one row
 module _ (rows : List Placed) (used : List (ℕ × ℕ)) (next s p : ℕ) (row : Row) (sound : Sound rows used next) (uses : lookup (nat_eq s) used ≡ Some p) (at : lookup (nat_eq p) rows ≡ Some row)
     (its : row.serial ≡ s) (valid : IsValidRows (remove_entry (nat_eq p) rows)) where
   left : AllByRecursion (λ u. LeadsTo rows u × (nat_eq s u.0 ≡ false)) (remove_entry (nat_eq s) used)
@@ -156,7 +156,7 @@ module _ (rows : List Placed) (used : List (ℕ × ℕ)) (next s p : ℕ) (row :
       (subst (λ (n : ℕ). AllByRecursion (λ u. (d : CachedData) → held_in rows u.1 ≡ Some d → (full_name_of d) ≡ (full_name_of row.entry) → u.0 ≡ n) used) its (alone_in rows used next sound p row at))
       uses (ap (λ o. option_map (λ (r : Row). r.entry) o) at) refl
 
--- ---- the least recently used row is evicted
+-- ---- the eviction of the least recently used row
 pub take_whole : {X : Type 0} (n : ℕ) (us : List (ℕ × X)) → slice_get us n ≡ None → take n us ≡ us
 take_whole zero [] e = refl
 take_whole zero (u ∷ us) e = absurd cc

@@ -81,7 +81,7 @@ none_left name rows used next at sound lower never =
       | inr after ↦ none_after name rows at sound.valid.rising (omega arith) (λ e. lower.above at e (omega arith) (omega arith)) (λ e. never e (omega arith)) k d after lt p
     ])
 
--- ---- one more row is removed
+-- ---- the removal of one more row
 
 module _ (h f : ℕ → Option Row) (order : List ℕ) (start end p : ℕ) (row : Row) (name : List Field)
     (rows : IsRows h (without_range start end order)) (lower : IsLower name (shown h (without_range start end order)) start)

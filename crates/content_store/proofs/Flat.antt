@@ -43,7 +43,7 @@ last_ends n (b ∷ []) zero d a e = (let s = a.0 in omega (arith, length-append 
 last_ends n (b ∷ c ∷ bs) zero d a e = absurd (omega arith)
 last_ends n (b ∷ bs) (suc i) d a e = (let rest = last_ends (n + length b.items.items) bs i d a.1 (omega arith) in omega (arith, length-append b.items.items (flat bs)))
 
--- ---- one block changes
+-- ---- the change of one block
 
 pub flat_get : (n : ℕ) (bs : List Block) (i : ℕ) (d : Block) (o k : ℕ) → AreLaid n bs → i < length bs → o < length (get_or bs i d).items.items → n + k ≡ (get_or bs i d).start + o
     → get_or (flat bs) k 0 ≡ get_or (get_or bs i d).items.items o 0
@@ -90,7 +90,7 @@ flat_set [] i d b' lt same = absurd (omega arith)
 flat_set (b ∷ bs) zero d b' lt same = ap (λ (l : List ℕ). l ++ flat bs) same
 flat_set (b ∷ bs) (suc i) d b' lt same = ap (λ (l : List ℕ). b.items.items ++ l) (flat_set bs i d b' (omega arith) same)
 
--- ---- a block is split into two, and two blocks are joined
+-- ---- the split of a block into two, and the join of two blocks
 
 pub flat_split : (bs : List Block) (i : ℕ) (d first second : Block) → i < length bs → first.items.items ++ second.items.items ≡ (get_or bs i d).items.items
     → flat (set (insert bs (suc i) second) i first) ≡ flat bs
@@ -113,7 +113,7 @@ flat_drop [] i d lt none = absurd (omega arith)
 flat_drop (b ∷ bs) zero d lt none = sym (ap (λ (l : List ℕ). l ++ flat bs) none)
 flat_drop (b ∷ bs) (suc i) d lt none = ap (λ (l : List ℕ). b.items.items ++ l) (flat_drop bs i d (omega arith) none)
 
--- ---- a range is removed
+-- ---- the removal of a range
 
 low_or_high : (m n : ℕ) → (m ≤ n) ⊎ (n ≤ m)
 low_or_high m n = grind arith
@@ -151,7 +151,7 @@ flat_cut n (b ∷ bs) (c ∷ cs) start end a le len each =
     (λ k. first k ++ rest k)
     ∙ sym (range_append b.items.items (flat bs) (start - n) (end - n) (start - (n + length b.items.items)) (end - (n + length b.items.items)) (omega arith) (omega arith) (omega arith))
 
--- ---- the starts of the blocks are updated
+-- ---- the update of the starts of the blocks
 
 pub laid_push : (n : ℕ) (bs : List Block) (b : Block) → AreLaid n bs → b.start ≡ n + length (flat bs) → AreLaid n (bs ++ b ∷ [])
 unfolding AreLaid flat

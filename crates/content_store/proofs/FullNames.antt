@@ -119,9 +119,9 @@ then_less Greater cs = refl
 digest_field : (d : List ℕ) → length d ≡ 32 → octets_of ((1, d) ∷ []) ≡ digest_octets d
 digest_field d len = let o = full_octets [] d [] ((tt, refl), (omega arith, tt)) len in o.0
 
--- `d` and `e` are digests. Comparing the component of `d` with the concatenation of `rest` and the
--- component of `e` yields the result of comparing the component of `d` with `rest` alone, or Less
--- if that result is Equal.
+-- `d` and `e` are digests, and `rest` is not empty. Comparing the component of `d` with the
+-- concatenation of `rest` and the component of `e` yields the result of comparing the component of
+-- `d` with `rest` alone, or Less if that result is Equal.
 digest_before : (rest : List Field) (d e : List ℕ) → AllByRecursion IsField rest → 0 < length (octets_of rest) → length d ≡ 32 → length e ≡ 32
     → slice_cmp nat_cmp (digest_octets d) (octets_of rest ++ digest_octets e) ≡ ordering_then (slice_cmp nat_cmp (digest_octets d) (octets_of rest)) Less
 digest_before [] d e h some dl el = absurd (omega arith)
@@ -151,9 +151,9 @@ module _ (u v front rest d e : List ℕ) (name other : List Field) (h : IsNameVa
       ∙ (λ k. slice_cmp nat_cmp (o.0 k) ((p.0 ∙ ap (λ (t : List ℕ). t ++ digest_octets e) is ∙ append_assoc front rest (digest_octets e)) k))
       ∙ cmp_split u front (digest_octets d) (rest ++ digest_octets e) (sym len)
 
-  -- if `u` equals `front`, comparing the component of the digest `d` with the concatenation of
-  -- `rest` and the component of the digest `e` yields the result of comparing the component of `d`
-  -- with `rest` alone, or Less if that result is Equal
+  -- if `u` equals `front` and `rest` is not empty, comparing the component of the digest `d` with
+  -- the concatenation of `rest` and the component of the digest `e` yields the result of comparing
+  -- the component of `d` with `rest` alone, or Less if that result is Equal
   behind : u ≡ front → slice_cmp nat_cmp (digest_octets d) (rest ++ digest_octets e) ≡ ordering_then (slice_cmp nat_cmp (digest_octets d) rest) Less
   behind same =
       let p = begins_with name other rest h.0.0 g.0.0 (sym g.0.1 ∙ is ∙ ap (λ (t : List ℕ). t ++ rest) (sym same ∙ h.0.1)) in
@@ -189,7 +189,7 @@ full_parts (a ∷ n) (b ∷ m) d e is =
     let rest = full_parts n m d e after in
     (λ k. first k ∷ rest.0 k, rest.1)
 
--- ---- full names that begin with a name, or equal it
+-- ---- full names that begin with a name, or are equal to a name
 
 last_of : (n m : List Field) (x : Field) → IsPrefix m (n ++ x ∷ []) → IsPrefix m n ⊎ (m ≡ n ++ x ∷ [])
 last_of n [] x p = inl (n, refl)
@@ -260,8 +260,8 @@ module _ (u v : List ℕ) (n m : List Field) (d : List ℕ) (flag : Bool) (h : I
 
 -- ---- comparing names by their first octets
 
--- if `o` is the result of comparing the first `n` octets of `u` and `v`, and is not Equal, then `o`
--- is also the result of comparing `u ++ x` with `v ++ y`
+-- let `u` and `v` have at least `n` octets: if `o` is the result of comparing the first `n` octets
+-- of `u` and `v`, and is not Equal, then `o` is also the result of comparing `u ++ x` with `v ++ y`
 first_decide : (n : ℕ) (u v x y : List ℕ) (o : Ordering) → n ≤ length u → n ≤ length v → o ≡ slice_cmp nat_cmp (take n u) (take n v) → (o ≡ Equal → ⊥) → o ≡ slice_cmp nat_cmp (u ++ x) (v ++ y)
 first_decide n u v x y o lu lv e never =
     let parts = λ (w z : List ℕ). ap (λ (t : List ℕ). t ++ z) (sym (take-append-drop n w)) ∙ append_assoc (take n w) (drop n w) z in

@@ -116,7 +116,7 @@ length_front s p (u ∷ us) e = split (eqb s u.0) e (length_front s p us)
     split true f again = refl
     split false f again = ap (λ n. suc n) (again f)
 
--- ---- one element removed from the LRU order
+-- ---- the removal of one element from the LRU order
 module _ (g : ℕ → Option CachedData) (s : ℕ) (name : List Field) where
   -- `u` is a pair of a serial number and a slab index: if the Data at this slab index has the full
   -- name `name`, the serial number is `s`

@@ -8,7 +8,8 @@ use crate::places::Places;
 use crate::rows::Row;
 use slab::Slab;
 
-/// A block with more rows than this number is split in two, unless memory runs out.
+/// If a block has more rows than this number after a row is added to the block, it is split in two,
+/// unless memory runs out.
 const MAX_BLOCK: usize = 512;
 
 /// A block of the list of rows: the rows at positions from `start` up to, but not including, `end`.
@@ -195,7 +196,8 @@ fn halve(entries: &Slab<Row>, order: &Places, blocks: &mut Vec<Block>, index: us
     }
 }
 
-/// Computes `until` of the block with index `index` again, from the rows of the block.
+/// Computes `until` of the block with index `index` again, from the rows of the block. Does nothing
+/// if there is no such block.
 fn look_again(entries: &Slab<Row>, order: &Places, blocks: &mut Vec<Block>, index: usize)
     requires { IsRows (get entries.now) order.now }
     ensures { Keeps (shown (get entries.now) order.now) blocks.old.items blocks.new.items }

@@ -133,7 +133,7 @@ impl Entry {
     }
 
     /// Returns whether the full name of this entry is near the key's name. A full name is near the
-    /// key's name if it begins with the key's name and satisfies one condition more: the key has
+    /// key's name if it begins with the key's name and satisfies one more condition: the key has
     /// CanBePrefix, or the component after the key's name, if there is one, has a type number of at
     /// most 1. Only Data with a full name near the key's name can serve an Interest of this key.
     #[inline(always)]

@@ -89,7 +89,7 @@ fn lower_bound(entries: &Slab<Row>, order: &Places, sought: Sought<'_>, steps: &
 }
 
 /// Returns the position of the first Data that can serve an Interest of this key, or `None` if no
-/// Data can serve it.
+/// Data can serve it. Adds one to `steps` for each comparison of the binary search.
 fn first_serving(
     entries: &Slab<Row>,
     order: &Places,
@@ -186,7 +186,7 @@ impl Rows {
     }
 
     /// Returns the position of the first Data that can serve an Interest of this key, or `None` if
-    /// no Data can serve it.
+    /// no Data can serve it. Adds one to `steps` for each comparison of the binary search.
     pub fn first_serving(&self, key: Key<'_>, now: u64, steps: &mut u64) -> Option<usize>
         requires short { length self.now < 131072 }
         requires room { steps.old ≤ 2 ^ 64 - 1 - 17 }

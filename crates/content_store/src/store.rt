@@ -116,8 +116,8 @@ impl Store {
     /// evicted. A Data that is already cached with the same octets needs no memory, and is never
     /// refused. Returns false and leaves the store unchanged if memory runs out, or if a cached
     /// Data with the same full name has other octets. After 2^64 - 1 Data with new full names have
-    /// been cached, the next Data with a new full name empties the store: this Data is not cached,
-    /// and the result is false.
+    /// been cached since the store was created or last emptied by `put`, the next Data with a new
+    /// full name empties the store: this Data is not cached, and the result is false.
     pub fn put(&mut self, packet: &Data<'_>, arrival: u64) -> bool
         ensures ok { IsTrue result
             → self.new ≡ with_cached self.old (cached_at packet.now arrival) }

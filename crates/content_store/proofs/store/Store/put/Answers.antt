@@ -14,7 +14,7 @@ use Rattle.content_store.proofs.Renewed.{held_none, held_same}
 use Rattle.content_store.proofs.store.Store.put.Goals as goal
 use Rattle.content_store.proofs.store.Store.put.Goals.{Else-is_full, In-Ok, Else-not-put_new, After-put_same}
 
--- ---- no cached Data has the full name of the packet
+-- ---- if the search does not find the full name of the packet, no cached Data has this full name
 
 other : (c : Else-is_full) → (d : Placed) → c.place_for-at.result < length c.self.inside.rows
     → name_at (get_or c.self.inside.rows c.place_for-at.result d) ≢ full_name_of (cached_at c.args.packet.now c.args.arrival)
@@ -47,7 +47,7 @@ returns-in_default-clause-same c = λ d held named octets. absurd (absent (goal.
 pub returns-then-not-put_new-clause-same : goal.returns-then-not-put_new-clause-same
 returns-then-not-put_new-clause-same c = λ d held named octets. absurd (absent (goal.at.returns-then-not-put_new-clause-same c).Else-is_full d held named)
 
--- ---- the serial numbers are used up
+-- ---- the case that all serial numbers are used up
 
 pub invariant_of-self-then-self : goal.invariant_of-self-then-self
 invariant_of-self-then-self c = (held_none c.self.inside.rows _ c.self.inside.used _ c.self.inside.capacity c.self.inside.next c.self.invariant c.clear.ensures c.clear-then-self.ensures).0
@@ -68,7 +68,7 @@ pub returns-then-self-clause-store : goal.returns-then-self-clause-store
 returns-then-self-clause-store c =
     held_store _ _ c.self.inside.capacity 0 (held_none c.self.inside.rows _ c.self.inside.used _ c.self.inside.capacity c.self.inside.next c.self.invariant c.clear.ensures c.clear-then-self.ensures).0
 
--- ---- the full name is cached
+-- ---- the case that a Data with the full name is cached
 
 abbrev renewed_list : After-put_same → List CachedData
 renewed_list c =
@@ -102,7 +102,7 @@ returns-then-is_full-clause-unharmed c = λ f. inl ((same (goal.at.returns-then-
 pub returns-then-is_full-clause-store : goal.returns-then-is_full-clause-store
 returns-then-is_full-clause-store c = held_store _ _ c.self.inside.capacity c.self.inside.next (same (goal.at.returns-then-is_full-clause-store c).After-put_same).0
 
--- ---- the full name is new
+-- ---- the case that no cached Data has the full name
 
 pub put_new-requires-clause-fits : goal.put_new-requires-clause-fits
 put_new-requires-clause-fits c =
