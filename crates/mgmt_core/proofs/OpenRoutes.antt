@@ -1,4 +1,5 @@
--- The effects of commands on the faces that have next hops and routes.
+-- If all faces with next hops or routes are up, this remains true after commands, after the closing
+-- and opening of faces, and after the expiry of routes.
 use Rattle.std.proofs.Common.{◌≡◌, ℕ, Bool, List, [], ◌∷◌, true, false, cond, sym, ap, subst, refl, inl, inr, Option, None, Some, unwrap_or, eqb, arith, ◌∙◌}
 use Rattle.std.proofs.lemmas.Bool.Decides.{nat_tests}
 use Rattle.std.proofs.lemmas.Cmp.{nat_cmp_total}
@@ -135,7 +136,7 @@ module _ (up : List ℕ) where
       still_left (eq_by_cmp route_cmp k key) (map.get e.registered k) (λ _ there. all f (inr (origin, there)))
       (subst (λ (o : Option Route). IsSome o) (get-remove route_cmp-total e.registered key k) some)
 
-  -- ---- commands leave all faces up
+  -- ---- after a command, all faces with next hops or routes are still up
 
   either_up : (b : Bool) (after before : Routes) → AllAreUp after up → AllAreUp before up → AllAreUp (cond b after before) up
   either_up true after before done left = done
@@ -182,7 +183,7 @@ module _ (up : List ℕ) where
         | EraseCache ↦ all
       ]
 
--- ---- a face is closed, or routes expire
+-- ---- the closing of a face, and the expiry of routes
 
 -- In this module, `change` is applied to each entry; if all faces of an entry are in `up`, all
 -- faces of the changed entry are in `rest`.
@@ -238,7 +239,7 @@ module _ (now : ℕ) (up : List ℕ) where
       revised_up up up (entry_left_at now)
       (λ e all. unless_vacant_up up (record e { registered = revise (until_due now) e.registered }) (until_due_up e all))
 
--- ---- a face is opened
+-- ---- the opening of a face
 
 later : (a b : Bool) → b ≡ true → (a || b) ≡ true
 later true b e = refl

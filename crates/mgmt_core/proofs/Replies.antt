@@ -1,4 +1,4 @@
--- The reply to a command is longest for the greatest face id.
+-- The body of a reply to a command is longest for the greatest face id.
 use Rattle.std.proofs.Common.{◌≡◌, ℕ, ◌+◌, ◌-◌, ◌<◌, ◌≤◌, ◌^◌, Bool, true, false, List, [], ◌∷◌, ◌++◌, length, refl, sym, ap, ◌∙◌, append_assoc, arith}
 use Rattle.std.specs.Prelude.{Some, None, nat_eq, if◌then◌else◌}
 use Rattle.std.proofs.lemmas.List.{length-append}

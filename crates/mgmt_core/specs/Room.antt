@@ -7,7 +7,8 @@ use Rattle.mgmt_core.specs.Reading.{PlainCommand}
 use Rattle.ndn_tlv.specs.Writing.{octets}
 use Rattle.mgmt_core.specs.Writing.{reply_body, reply_fields}
 
--- the reserved memory is enough for the reply to the command, whichever face the command comes from
+-- the reserved memory is enough for the body of a reply to the command, whichever face the command
+-- comes from
 abbrev pub HasRoomForReply : ReplyRoom → PlainCommand → Type 0
 HasRoomForReply room c =
     (face : ℕ) → face < 2 ^ 64
@@ -25,8 +26,8 @@ IsCallPrepared t c =
       | _ ↦ Unit {0}
     ]
 
--- there is memory for the reply to the command `c`, and the table that the command may enlarge, if
--- there is one, is prepared for the name `c.name`
+-- there is memory for the body of a reply to the command `c`, and the table that the command may
+-- enlarge, if there is one, is prepared for the name `c.name`
 abbrev pub IsPrepared : Tables → PlainCommand → Type 0
 IsPrepared t c = HasRoomForReply t.room c × IsCallPrepared t c
 

@@ -22,8 +22,8 @@ const CHILD_INHERIT: u64 = 1;
 pub struct Command<'a> {
     /// The action of the command.
     pub action: Action,
-    /// The name whose routes or strategy choice the command changes. `cs/erase` erases cached Data
-    /// whose full names begin with this name.
+    /// The name whose next hops, routes or strategy choice the command changes. `cs/erase` erases
+    /// cached Data whose full names begin with this name.
     pub name: Name<'a>,
     /// The face of the next hop or route. 0 stands for the face that the command came from.
     pub face: u64,

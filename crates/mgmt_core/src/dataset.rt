@@ -49,8 +49,9 @@ pub fn segment_of(text: &[u8], number: u64) -> Option<(&[u8], u64)>
     Some((&rest[..rest.len().min(SEGMENT_LEN)], last))
 }
 
-/// Returns what `segment_of` returns for the dataset of routes. Reads all names in order. At any
-/// time, only the segment, one entry and one name are stored.
+/// Returns what `segment_of` returns for the dataset of routes. Reads all names in order. Of the
+/// dataset, only the segment and one entry are stored at any time. The walk over the names also
+/// stores one name, and a state for each prefix of this name that has an entry.
 pub fn fib_segment(
     alloc: Global,
     fib: &Fib,
@@ -64,8 +65,8 @@ pub fn fib_segment(
     Ok(written.segment(number))
 }
 
-/// Returns what `segment_of` returns for the dataset of strategies. Like `fib_segment`, stores only
-/// the segment, one entry and one name at any time.
+/// Returns what `segment_of` returns for the dataset of strategies. As in `fib_segment`, only the
+/// segment and one entry of the dataset are stored at any time.
 pub fn strategy_segment(
     alloc: Global,
     strategies: &StrategyTable,

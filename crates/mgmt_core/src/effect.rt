@@ -213,7 +213,8 @@ fn register(fib: &mut Fib, command: &Command<'_>, face: u64, now: u64) -> Result
     }
 }
 
-/// Sets the command's strategy for `command.name`. Precondition: the command is not refused.
+/// Sets the command's strategy for `command.name`. Changes nothing if the command names no known
+/// strategy. Precondition: the table does not refuse `command.name`.
 fn set_strategy(choices: &mut StrategyTable, command: &Command<'_>) -> Result<(), Memory>
     requires { refusal choices.old.table (components command.now.name) ≡ None }
     ensures ok { OnOk result (choices.new.table ≡ with_choice choices.old.table

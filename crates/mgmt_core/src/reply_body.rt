@@ -23,8 +23,8 @@ use std::mem;
 
 /// An upper bound of the number of octets in a reply's body, not counting the value of the Name
 /// field. A body that is not empty is a ControlParameters element: its header, the header of its
-/// Name, and all fields after the Name are counted. This number can be greatest for replies to
-/// `rib/register`.
+/// Name, and all fields after the Name are counted. The number of these octets can be greatest for
+/// replies to `rib/register`.
 pub const BODY_EXTRA: usize = 70;
 
 /// An upper bound of the number of octets in a whole reply, not counting the value of the Name

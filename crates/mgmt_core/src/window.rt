@@ -63,7 +63,7 @@ impl Window {
     }
 
     /// Returns segment `number` and the number of the last segment, or `None` if the text has no
-    /// segment `number`.
+    /// segment `number`. `number` must be the number that was given to `new`.
     fn segment(self, number: u64) -> Option<(Vec<u8>, u64)>
         ensures { (text : List ℕ) → self ≡ kept_of (start_of number) text
             → option_map (λ s. (s.0.items, s.1)) result ≡ segment_at text number }
@@ -119,7 +119,7 @@ impl ListWriter {
     }
 
     /// Returns segment `number` and the number of the last segment, or `None` if the dataset has no
-    /// segment `number`.
+    /// segment `number`. `number` must be the number that was given to `new`.
     pub fn segment(self, number: u64) -> Option<(Vec<u8>, u64)>
         ensures { (text : List ℕ) → self ≡ kept_of (start_of number) text
             → option_map (λ s. (s.0.items, s.1)) result ≡ segment_at text number }

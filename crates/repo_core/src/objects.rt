@@ -164,7 +164,8 @@ fn candidates<'a>(objects: &'a [Object], name: Name<'_>, can_be_prefix: bool) ->
 }
 
 /// Returns the number of objects in the slice that answer an Interest with this name and this
-/// CanBePrefix flag.
+/// CanBePrefix flag. Precondition: in the slice, objects that pass `is_near` come before all other
+/// objects.
 fn count_of(objects: &[Object], name: Name<'_>, can_be_prefix: bool) -> usize
     requires { IsPartitionedBy (λ o. is_near (components name) can_be_prefix o.0) objects.now }
     ensures { result ≡ length (answering (components name.entry) can_be_prefix objects.now) }
@@ -182,7 +183,8 @@ fn count_of(objects: &[Object], name: Name<'_>, can_be_prefix: bool) -> usize
 }
 
 /// Returns the octets of the first object in the slice that answers an Interest with this name and
-/// this CanBePrefix flag, or `None` if no object in the slice answers.
+/// this CanBePrefix flag, or `None` if no object in the slice answers. Precondition: in the slice,
+/// objects that pass `is_near` come before all other objects.
 fn first_of<'a>(objects: &'a [Object], name: Name<'_>, can_be_prefix: bool) -> Option<&'a [u8]>
     requires { IsPartitionedBy (λ o. is_near (components name) can_be_prefix o.0) objects.now }
     ensures { option_map (λ o. o.now) result

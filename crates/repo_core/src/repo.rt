@@ -156,12 +156,12 @@ impl Repo {
         }
     }
 
-    /// Offers a Data to the repository, and returns whether the Data was wanted. A wanted Data is
-    /// added, or replaces the object with the same full name. All wants that the Data answers are
-    /// removed. An offer of a wanted Data ends the preparation that `prepare_command` or
-    /// `prepare_offer` made, even if the offer returns `Memory`. Only the offer of a wanted Data
-    /// can return `Memory`. An offer that returns `Memory` leaves the objects and wants unchanged.
-    /// A Data that is not wanted changes nothing.
+    /// Offers a Data to the repository, and returns whether the Data was wanted. Wants that have
+    /// expired count until `expire` removes them. A wanted Data is added, or replaces the object
+    /// with the same full name. All wants that the Data answers are removed. An offer of a wanted
+    /// Data ends the preparation that `prepare_command` or `prepare_offer` made, even if the offer
+    /// returns `Memory`. Only the offer of a wanted Data can return `Memory`. An offer that returns
+    /// `Memory` leaves the objects and wants unchanged. A Data that is not wanted changes nothing.
     pub fn offer(&mut self, packet: &Data<'_>) -> Result<bool, Memory>
         ensures filled { IfOk result (λ filled. filled ≡ is_wanted (components packet.now.name)
             (sha256 packet.now.whole.now) self.old.held.wants) }
