@@ -21,7 +21,7 @@ use Rattle.pit_fib.specs.Route.{Registered, is_capture, is_child_inherit, route_
 use Rattle.pit_fib.specs.Tables.{ByFace}
 use Rattle.pit_fib.proofs.Inheritance.{get-prefer}
 
--- ---- lookups in a map that is replaced by the empty map if a test fails
+-- ---- lookups in a map that a test may replace by the empty map
 
 get_if : (b : Bool) (m : ByFace) (f : ℕ) → get (cond b m empty) f ≡ cond b (get m f) None
 get_if true m f = refl

@@ -40,8 +40,8 @@ left_or_gone n f x =
     turned : (m : ℕ) → ltb 0 m ≡ not (eqb m 0)
     turned m = grind (arith, nat_tests)
 
--- an expiry leaves exactly those in-records in the entry that do not expire; if all in-records of
--- the entry expire, the entry is removed
+-- an expiry leaves in the entry exactly the in-records that do not expire; if all in-records of the
+-- entry expire, the entry is removed
 living_each : (now : ℕ) (s : Kept) → living (expired now s) ≡ option_map (with_asks s) (each (until_after now) s.records.in_records)
 unfolding with_asks
 living_each now s = left_or_gone (len (revise (until_after now) s.records.in_records)) (with_asks s) (revise (until_after now) s.records.in_records)

@@ -29,7 +29,7 @@ left_is e part is =
       | false ↦ λ f. ((let same : e ≡ part = cc in sym same), refl)
     ] is
 
--- ---- values that are left in a map after others were removed
+-- ---- values that are left in a map after other values were removed
 some_kept : {X : Type 0} (b : Bool) (o : Option X) → IsSome (cond b None o) → IsSome o
 some_kept true o some = absurd cc
 some_kept false o some = some
@@ -42,7 +42,7 @@ fewer_by : (b : Bool) (n m : ℕ) → n ≡ cond b (m - 1) m → n ≤ m
 fewer_by true n m is = omega (arith, is)
 fewer_by false n m is = omega (arith, is)
 
--- ---- one next hop or one route is removed
+-- ---- the removal of one next hop or one route
 
 pub part_without_hop : (face : ℕ) (whole part : Entry) → entry_without_hop face whole ≡ Some part → IsPartOf part whole
 part_without_hop face whole part is =
@@ -70,7 +70,7 @@ part_without_route key whole part is =
       kept = λ k r there. got_kept (eq_by_cmp route_cmp k key) _ r (sym (get-remove route_cmp-total whole.registered key k) ∙ there);
     })
 
--- ---- the hops and routes of a face, or the routes that expire by a moment, are removed
+-- ---- the removal of the hops and routes of a face, or of the routes that expire by a moment
 
 -- changing or removing the values of rows does not increase the number of rows
 pub fewer_rows : {K X : Type 0} (change : X → Option X) (es : List (K × X)) → length (revised change es) ≤ length es
@@ -152,7 +152,7 @@ module _ (face : ℕ) where
         kept = λ k r there. passed (other k) _ r (sym (get-retain_keys whole.registered other k (alike k)) ∙ there);
       })
 
--- ---- a next hop or a route is set
+-- ---- the setting of a next hop or a route
 
 pub held_in : {K X : Type 0} {R : K → K → Ordering} (m : FinMap R X) (k : K) → contains_key m k ≡ true → 0 < len m
 held_in {X = X} {R = R} m k there =
@@ -228,7 +228,7 @@ no_route key =
     vacant_none (record no_entry { registered = remove no_entry.registered key }) (len-empty nat_cmp ℕ)
     (none_less _ _ _ (len-remove route_cmp-total no_entry.registered key) (len-empty route_cmp Route))
 
--- ---- the number of all routes after the entry of one name is changed
+-- ---- the number of all routes in a table after the entry of one name was changed
 
 vacant_is : (a b : Bool) → (a && b) ≡ true → b ≡ true
 vacant_is true b e = e

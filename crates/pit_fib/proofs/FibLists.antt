@@ -25,7 +25,7 @@ entry_at_place t i row lt is =
 pub left_there : (t : Routes) (now : ℕ) (name : List Field) (e : Entry) → get t name ≡ Some e → is_some (entry_left_at now e) ≡ true → IsSome (get (left_at now t) name)
 left_there t now name e is some = ap is_some (get-revise name_cmp-antisymmetric (entry_left_at now) t name ∙ ap (option_and_then (entry_left_at now)) is) ∙ some
 
--- ---- one more entry in the list
+-- ---- the list with one more entry
 
 revised-append : (now : ℕ) (es : List (List Field × Entry)) (e : List Field × Entry) → revised (entry_left_at now) (es ++ e ∷ []) ≡ revised (entry_left_at now) es ++ with_entry e.0 (entry_left_at now e.1) []
 revised-append now [] e = refl

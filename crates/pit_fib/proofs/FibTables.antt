@@ -118,7 +118,7 @@ module _ (t : Routes) (within : IsWithinFib t) (name : List Field) where
   part_itself : (e : Entry) → is_vacant e ≡ false → IsPartOf e e
   part_itself e some = record { some = some; fewer = omega arith; leads = λ f l. l; kept = λ key r is. is }
 
-  -- let `g` remove an entry or return a part of the entry (`IsPartOf`); then applying `g` to the
+  -- if `g` always removes an entry or returns a part of it (`IsPartOf`), then applying `g` to the
   -- entry of one name shrinks the table (`IsShrunk`)
   pub shrunk_one : (g : Entry → Option Entry) → ((whole part : Entry) → g whole ≡ Some part → IsPartOf part whole) → IsShrunk t (Changed g)
   shrunk_one g parts q part =

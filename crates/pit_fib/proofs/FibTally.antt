@@ -1,5 +1,5 @@
--- The number of all routes, the first moment at which a route expires, and the number of routes
--- that expire by a moment.
+-- The number of all routes, the earliest deadline of a route, and the number of routes that remain
+-- after an expiry.
 use Rattle.std.proofs.Common.{◌≡◌, ◌+◌, ◌^◌, ◌<◌, ◌≤◌, ℕ, true, false, cond, List, [], ◌∷◌, length, refl, sym, ap, subst, ◌∙◌, arith}
 use Rattle.std.proofs.lemmas.Bool.{lt-leb}
 use Rattle.std.specs.Prelude.{Option, None, Some, fold, map}
@@ -38,7 +38,7 @@ all_found R P (e ∷ es) all q x is =
 pub all_got : {K X : Type 0} {R : K → K → Ordering} (P : X → Type 0) (m : FinMap R X) → AllByRecursion (λ (e : K × X). P e.1) (entries m) → (q : K) (x : X) → get m q ≡ Some x → P x
 all_got {R = R} P m all q x is = all_found R P (entries m) all q x (sym (get-entries m q) ∙ is)
 
--- ---- the first moment at which a route expires
+-- ---- the earliest of a moment and the deadlines of routes
 
 sooner_le : (m : ℕ) (o : Option ℕ) → sooner m o ≤ m
 sooner_le m None = omega arith
@@ -67,7 +67,7 @@ earliest_ends m (row ∷ rows) = (
   earliest_ends (sooner m row.1.deadline) rows,
 )
 
--- ---- the count and the first moment for all entries
+-- ---- the number of routes and the earliest deadline in all entries
 
 abbrev sizes : List (List Field × Entry) → ℕ
 sizes es = total size es
@@ -117,7 +117,8 @@ same_row now r later =
       | (Some d) ↦ λ is. lt-leb d now (later d is)
     ] refl
 
--- an expiry before the first moment at which a route expires removes no route
+-- if no route expires before `moment`, and each name has next hops or routes, then an expiry before
+-- `moment` leaves the table unchanged
 pub none_due : (t : Routes) (now moment : ℕ) → HaveSome t → NoneEndsBefore moment t → now < moment → left_at now t ≡ t
 none_due t now moment some later less =
     same_map name_cmp-total name_cmp-antisymmetric _ _ (λ q.

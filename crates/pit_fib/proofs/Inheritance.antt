@@ -33,7 +33,7 @@ use Rattle.pit_fib.proofs.FibTables.{EntryLeads}
 use Rattle.pit_fib.proofs.PendingFaces.{at_most, room_in}
 use Rattle.pit_fib.proofs.Within.{set_in_room}
 
--- ---- costs that take precedence over others
+-- ---- costs that take precedence over other costs
 
 find_over : {K X : Type 0} (R : K → K → Ordering) (xs ys : List (K × X)) (q : K) → find R q (xs ++ ys) ≡ option_or (find R q xs) (find R q ys)
 find_over R [] ys q = refl
@@ -171,7 +171,7 @@ module _ (P : ℕ → Type 0) (few : AtMost64 P) where
           | false ↦ same
         ])
 
-    -- ---- whether a route passes a test and does not expire by a moment
+    -- ---- whether some route passes a test and does not expire by a moment
 
     any_live : (test : Route → Bool) (rows : List (RouteKey × Route)) → list_any (λ e. counts_at at e.1 && test e.1) rows ≡ list_any (λ e. test e.1) (live_rows rows)
     any_live test [] = sym (ap (list_any (λ e. test e.1)) live_nil)
@@ -196,7 +196,7 @@ module _ (P : ℕ → Type 0) (few : AtMost64 P) where
         not_none : (n : ℕ) → eqb (suc n) 0 ≡ false
         not_none n = grind (arith, nat_tests)
 
--- ---- the walk passes one more entry
+-- ---- the state of the walk after one more entry
 
 -- all routes of an entry if there is no moment, otherwise those that do not expire by the moment
 abbrev live_map : Option ℕ → Registered → Registered
@@ -252,7 +252,7 @@ module _ (P : ℕ → Type 0) (few : AtMost64 P) (s : Inheriting) (among : (f : 
   hops_among f some = leads f (inl some)
 
   -- the costs that the walk passes on from an entry are the costs that the names below the entry
-  -- inherit
+  -- inherit if only the routes in `live s.at e` count
   inherited_is : laid_over (least_within s.at true (entries e.registered)) (cond (not (has_capture_at s.at (entries e.registered))) s.inherited empty) ≡ passed_on (Some (live s.at e)) s.inherited
   inherited_is =
       laid_is P few _ _ (least_of true).1 (among_if (not (has_capture_at s.at (entries e.registered))))
@@ -266,7 +266,7 @@ module _ (P : ℕ → Type 0) (few : AtMost64 P) (s : Inheriting) (among : (f : 
   own_among = laid_among P few _ _ (least_of false).1 (among_if (has_route_at s.at (entries e.registered) && not (has_capture_at s.at (entries e.registered))))
 
   -- the costs that the walk collects at an entry are the costs of the effective next hops of the
-  -- entry's name
+  -- entry's name if only the routes in `live s.at e` count
   costs_are : laid_over e.hops own ≡ effective_of (live s.at e) s.inherited
   costs_are =
       laid_is P few e.hops own hops_among own_among
@@ -381,7 +381,8 @@ module _ (t : Routes) (few : AtMost64 (LeadsTo t)) (at : Option ℕ) (name : Lis
   entry_faces q e is f l = (q, subst (λ x. EntryLeads x f) (sym (ap (λ o. unwrap_or o no_entry) is)) l)
 
   -- after the walk has passed the prefixes with fewer than n components, the field `inherited` of
-  -- the walk's state has the costs that the name inherits from these prefixes
+  -- the walk's state has the costs that the name inherits from these prefixes in the table
+  -- `live_table at t`
   inherited_at : (n : ℕ) → ((known n).inherited ≡ handed_down (live_table at t) name n) × Among (LeadsTo t) few (known n).inherited × ((known n).at ≡ at)
   unfolding known
   inherited_at zero = (refl, among_none (LeadsTo t) few, refl)
@@ -410,7 +411,8 @@ module _ (t : Routes) (few : AtMost64 (LeadsTo t)) (at : Option ℕ) (name : Lis
       none_left (Some now) = refl
 
   -- if the prefix of n components has an entry, then, after the walk has passed this prefix, the
-  -- field `costs` of the walk's state has the costs of the prefix's effective next hops
+  -- field `costs` of the walk's state has the costs of the prefix's effective next hops in the
+  -- table `live_table at t`
   costs_here : (n : ℕ) (e : Entry) → get t (take n name) ≡ Some e → (known (suc n)).costs ≡ effective_of (live at e) (handed_down (live_table at t) name n)
   unfolding known
   costs_here n e is =

@@ -84,7 +84,7 @@ len-pending rows =
     len-entries (pending_of rows) ∙ ap length (entries-shown flat) ∙ length_kept (λ (s : Kept). s.records) (entries flat)
     ∙ sym (len-entries flat) ∙ len-flatten key_at (λ k. k.name) flags_of makes rows
 
--- ---- a table in which the entry of each key changes independently
+-- ---- a table in which the entry of each key changes independently of the other entries
 
 abbrev pub Steps : Cause → Rows → Rows → Type 0
 Steps cause rows new = (k : PlainKey) → kept_at new k ≡ option_and_then (kept_after cause k) (kept_at rows k)
@@ -139,7 +139,7 @@ step_memory cause old new spare (Some p) step same h = (step_sends cause old.tab
     arrival None h = tt
     arrival (Some r) h = (h.0, h.1, same ∙ h.2)
 
--- ---- tables from which keys were removed
+-- ---- tables in which the value of each key was changed or removed
 
 module _ {X : Type 0} (change : PlainKey → X → Option X) where
   revised_by : List (PlainKey × X) → List (PlainKey × X)
@@ -197,7 +197,7 @@ module _ {X : Type 0} (change : PlainKey → X → Option X) where
       let count : len n ≡ length rows = ap len one ∙ len-from_sorted key_cmp rows (sorted_by (entries m) sorted) in
       omega (arith, count, fewer_rows (entries m), len-entries m)
 
--- ---- a table is within its limits
+-- ---- tables that are within their limits
 
 abbrev left : Records → Option Records
 left r = cond (is_alive r) (Some r) None
@@ -299,7 +299,7 @@ one_steps cause change key rows new alive others own is k =
     there t (Some s) h =
         sym (ap (λ r. living (record { records = r; is_wide = s.is_wide })) (others k s.records t) ∙ ap (λ b. cond b (Some s) None) (h s refl))
 
--- ---- a row is put into the table
+-- ---- the table after a row is put into it
 
 row_put : (row : Option Row) (f g : Flags) (s : Kept) → get (with_kept f s row) g ≡ cond (same_flags g f) (Some s) (kept_in row g)
 row_put row f g s = get-insert flags_cmp-total (unwrap_or row empty) f s g ∙ ap (cond (same_flags g f) (Some s)) (kept_in_or row g)
@@ -362,7 +362,7 @@ module _ (cause : Cause) (key : PlainKey) (s : Kept) (rows new : Rows) (alive : 
       by_key None e (inl some) = absurd cc
       by_key None e (inr less) = omega (arith, e, less)
 
--- ---- empty rows have no records; what a lookup in the rows tells about the records
+-- ---- the records of empty rows, and the records that a lookup in the rows finds
 
 none_in : (rows : Rows) → rows ≡ empty → (k : PlainKey) → kept_at rows k ≡ None
 none_in rows is k = ap (λ (t : Rows). kept_at t k) is ∙ ap (λ o. kept_in o (flags_of k)) (get-empty name_cmp k.name)
@@ -400,7 +400,7 @@ turned : (b : Bool) (c : Bool) → c ≡ not b → b ≡ not c
 turned true c e = ap not (sym e)
 turned false c e = ap not (sym e)
 
--- Let `b` be true exactly when the key has no entry, and let the statement `many` hold. Then `b` is
+-- If `b` is true exactly when the key has no entry, and if the statement `many` holds, then `b` is
 -- true exactly when the key has no in-record and `many` holds.
 pub new_where_absent : (rows : Rows) (pending : Pending) (key : PlainKey) (found : Option (Bor Kept)) → AreAlive rows → pending_of rows ≡ pending
     → option_map (λ e. e.now) found ≡ kept_at rows key → (b : Bool) → is_some found ≡ not b → (many : Type 0) → many

@@ -330,7 +330,7 @@ module _ (rows : Rows) (face : ℕ) (at : PlainKey → Option InRecord) (shown :
   row_at true Seen q best (Some row) here order h = own_row Seen q best row here order h
   row_at false Seen q best (Some row) here order h = prefix_row Seen q best row here order h
 
-  -- ---- the keys along a name
+  -- ---- the last in-record under the keys along a name
 
   abbrev pub Above : List Field → ℕ → PlainKey → Type 0
   Above name n k = (m : ℕ) × (m < n) × (k.name ≡ take m name) × IsTrue k.can_be_prefix

@@ -55,8 +55,8 @@ sorted_front (e ∷ front) rest h = both _ _ (below_front e.0 front (first_of _ 
     below_front x [] h = tt
     below_front x (e ∷ front) h = both _ _ (first_of _ _ h) (below_front x front (second_of _ _ h))
 
--- let the insertion of a number fail only if at least 64 faces have a number; then the insertion
--- succeeds if fewer than 64 faces have a number
+-- if the insertion of a number fails only when at least 64 faces have a number, and fewer than 64
+-- faces have a number, then the insertion succeeds
 pub set_here : (b : Bool) (old new : ByFace) (face number : ℕ) → (b ≡ true → new ≡ map.insert old face number) → (b ≡ false → 64 ≤ map.len old) → map.len old < 64 → new ≡ map.insert old face number
 set_here true old new face number ok full few = ok refl
 set_here false old new face number ok full few = absurd (let many = full refl in omega arith)

@@ -38,7 +38,7 @@ inside {a} {b} e = ap (λ o. unwrap_or o a) e
 nothing : {X : Type 0} {x : X} → None ≡ Some x → ⊥
 nothing e = absurd cc
 
--- ---- what the fold over the rows returns
+-- ---- what `least_reason` returns for the rows
 
 pub fold_is : (start least : ℕ) (rows : List Row) → least_reason start rows ≡ Some least → IsLeast least start rows
 fold_is start least [] e = (tt, (let same = inside e in omega (arith, same)), inl (sym (inside e)))

@@ -36,7 +36,7 @@ Adds (Closed face) f = ⊥
 never : {A : Type 0} → false ≡ true → A
 never e = absurd cc
 
--- ---- each value in a changed map was there before the change, or the change put it there
+-- ---- each face with a record after a cause had one before the cause, or the cause gave it one
 module _ {X : Type 0} (A : Type 0) (was : Option X) where
   gone : (b : Bool) → IsSome (cond b None was) → IsSome was ⊎ A
   gone true e = never e
@@ -248,7 +248,7 @@ room_in m face few = by_cases (get m face) refl
         let less = room_in_list (λ f. IsSome (get m f)) face (faces_of es) few (rises es sorted) there (absent_face face es (sym (get-entries m face) ∙ e)) in
         inr (omega (arith, less, count es, len-entries m))
 
--- ---- in an entry, the face has a record, or fewer than 64 faces have a record of the same kind
+-- ---- the room for a record of a face under one key, if the table has room for this face
 
 module _ (old : Pending) (key : PlainKey) (r : Records) (face : ℕ) (here : records_at old key ≡ r) (room : HasRoomFor old face) where
   ask_there : (f : ℕ) → IsSome (get r.in_records f) ⊎ (f ≡ face) → HasRecord old f ⊎ (f ≡ face)

@@ -17,7 +17,7 @@ use Rattle.pit_fib.specs.Past.{records_after_all, in_record_of, in_record_after,
 use Rattle.name_trie.proofs.Revised.{get-revise}
 use Rattle.pit_fib.proofs.PendingTables.{dead_none, dead_after_expiry}
 
--- ---- the record of one face after one cause
+-- ---- the in-record of one face after one cause
 
 differ : (b : Bool) → b ≡ true → b ≡ false → ⊥
 differ b p q = absurd cc
@@ -57,7 +57,7 @@ get-changed (Removed key) k f r =
     elim (same_key k key) as (λ b. get (cond b no_records r).in_records f ≡ cond b None (get r.in_records f)) [ true ↦ get-empty nat_cmp f | false ↦ refl ]
 get-changed (Closed face) k f r = get-remove nat_cmp_total r.in_records face f ∙ ap (λ b. cond b None (get r.in_records f)) (tie f face)
 
--- ---- after all causes of a list
+-- ---- the in-record of one face after all causes of a list
 
 pub asks_of_run : (run : List Cause) (k : PlainKey) (f : ℕ) → get (records_after_all run k).in_records f ≡ in_record_of run k f
 asks_of_run [] k f = get-empty nat_cmp f
@@ -150,7 +150,7 @@ asked_of_run (cause ∷ before) k g =
     ] refl
     ∙ ap (λ b. cond b (out_record_after cause k g (out_record_of before k g)) None) (sym (alive-settled (changed cause k (records_after_all before k))))
 
--- ---- an expiry has the same effect, whether or not there was an earlier expiry
+-- ---- the records after an expiry, with or without an earlier expiry directly before it
 
 kept_again : (m n : ℕ) → m ≤ n → (o : Option InRecord) → option_and_then (until_after n) (option_and_then (until_after m) o) ≡ option_and_then (until_after n) o
 kept_again m n le None = refl

@@ -1,4 +1,4 @@
--- The records of one key.
+-- The records of one key after one cause, and tables that show the same records.
 use Rattle.std.proofs.Common.{◌≡◌, ℕ, zero, suc, ◌+◌, Bool, true, false, cond, List, refl, ap, sym, ◌∙◌, arith, ltb}
 use Rattle.std.specs.Prelude.{Option, Some, None, is_some, unwrap_or}
 use Rattle.std.specs.FinMap as map

@@ -39,7 +39,7 @@ same_turned x y =
       ] refl
     ] refl
 
--- ---- causes after which a key without records still has no in-record
+-- ---- causes that give no in-record to a key without records
 
 pub dead_none : is_alive no_records ≡ false
 dead_none = ap (ltb 0) (len-empty nat_cmp InRecord)

@@ -38,7 +38,7 @@ another_key : (p : Prepared) (key : PlainKey) (room : Option ℕ) → same_key p
 another_key p key room other e = differ (sym (same_self key) ∙ ap (λ k. same_key k key) (sym (ap (key_in key) e)) ∙ other)
 
 -- if an `arrive` is prepared, or if the prepared calls are of another key, `calls_of` does not
--- return `Some (key, None)`, the result if only `sent` calls of this key are prepared
+-- return `Some (key, None)`, which would mean that only `sent` calls of this key are prepared
 pub not_sendings : (p : Prepared) (key : PlainKey) → (is_some p.arrival ≡ true) ⊎ (same_key p.key key ≡ false) → calls_of (Some p) ≡ Some (key, None) → ⊥
 not_sendings p key (inr other) e = another_key p key None other e
 not_sendings p key (inl some) e = at p.arrival some (ap room_in e)

@@ -86,7 +86,7 @@ module _ (f : ℕ) (faces : List ℕ) (n : ℕ) (le : length faces ≤ n) (low :
       drop_end [] = refl
       drop_end (x ∷ l) = drop_end l
 
--- ---- the list is still rising after a face was inserted
+-- ---- a rising list is still rising after a face that it lacked is inserted
 
 with_above : (g f : ℕ) (faces : List ℕ) → g < f → AllByRecursion (λ m. g < m) faces → AllByRecursion (λ m. g < m) (with_face f faces)
 with_above g f [] lt h = (lt, tt)

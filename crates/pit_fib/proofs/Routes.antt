@@ -12,8 +12,8 @@ use Rattle.pit_fib.specs.declared.route.RouteKey.{RouteKey}
 use Rattle.pit_fib.specs.Tally.{left_of}
 use Rattle.pit_fib.specs.Route.{is_due, route_cmp, route_cmp-antisymmetric, route_cmp-total, until_due}
 
--- the rows that do not expire by the moment `now` are the rows that `revised` with `until_due`
--- leaves
+-- the rows whose routes do not expire by the moment `now` are the rows that `revised` with
+-- `until_due` leaves
 pub left_rows : (now : ℕ) (rows : List (RouteKey × Route)) → filter (λ row. not (is_due now row.1)) rows ≡ revised (until_due now) rows
 left_rows now [] = refl
 left_rows now (row ∷ rows) =

@@ -22,8 +22,8 @@ use Rattle.pit_fib.proofs.Answered.{along, and_some, answers_along, below_stays,
 use Rattle.pit_fib.proofs.KeptTables.{Steps, get-with_value, row_changes}
 use Rattle.pit_fib.proofs.PendingTables.{dead_none}
 
--- the walk along the Data's name turns the table `rows` into `new`: from the rows of this name and
--- its proper prefixes, the walk removes the entries that the Data answers
+-- the walk along the Data's name turns the table `rows` into `new`: the walk removes the entries
+-- that the Data answers from the rows of this name and of its proper prefixes
 abbrev pub TakesAlong : List Field → Rows → Rows → Type 0
 TakesAlong name rows new =
     (q : List Field) → get new q ≡ option_and_then (changed_along (changed_row (unanswered true)) (changed_row (unanswered false)) q name) (get rows q)

@@ -61,7 +61,7 @@ unfolding Has
 all_if P [] each = tt
 all_if P (h ∷ hops) each = (each h (inl refl), all_if P hops (λ g has. each g (inr has)))
 
--- ---- one more hop is inserted
+-- ---- the insertion of one more hop
 
 more_has : (hop : Hop) (hops : List Hop) (g : Hop) → Has (with_hop hop hops) g → (hop ≡ g) ⊎ Has hops g
 unfolding Has
@@ -187,7 +187,7 @@ none_has : {P : Type 0} (g : Hop) → Has [] g → P
 unfolding Has
 none_has g has = absurd has
 
--- ---- the two laws of `hops_of`
+-- ---- the three clauses of the law of `hops_of`
 
 pub hops_sorted : (costs : ByFace) → AreInOrder (hops_of costs)
 hops_sorted costs = all_in_order (entries costs) [] (entries_sorted costs) tt (λ g has. none_has g has)

@@ -119,7 +119,7 @@ abbrev pub with_asking : Option Kept → List ℕ → List ℕ
 with_asking None faces = faces
 with_asking (Some s) faces = with_faces_of (map.entries s.records.in_records) faces
 
--- the lesser of two moments; if only one moment is given, this moment; None if none is given
+-- the lesser of two moments; if only one moment is given, this moment; if no moment is given, None
 abbrev pub lesser : Option ℕ → Option ℕ → Option ℕ
 lesser None b = b
 lesser (Some a) None = Some a

@@ -198,7 +198,7 @@ impl FaceMap<InRecord> {
     }
 }
 
-/// Returns the lesser of two moments. If one moment is `None`, returns the other moment.
+/// Returns the lesser of two moments. If one of them is `None`, returns the other one.
 pub fn lesser(a: Option<u64>, b: Option<u64>) -> Option<u64>
     ensures { result ≡ lesser a b }
 {
@@ -413,8 +413,8 @@ impl Entry {
     }
 }
 
-/// Returns the in-record with the later deadline, or `b` if the deadlines are the same. If one
-/// in-record is `None`, returns the other.
+/// Returns the in-record with the later deadline, or `b` if the deadlines are the same. If one of
+/// `a` and `b` is `None`, returns the other one.
 pub fn later<'a>(a: Option<&'a InRecord>, b: Option<&'a InRecord>) -> Option<&'a InRecord>
     ensures { option_map (λ r. r.now) result
         ≡ later (option_map (λ r. r.now) a.entry) (option_map (λ r. r.now) b.entry) }

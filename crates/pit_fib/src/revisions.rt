@@ -42,8 +42,8 @@ impl Revision for Closing {
     }
 }
 
-/// A revision that stores the reason of a Nack under one key, in the out-record of the face `face`.
-/// If the face has no out-record with the Nack's Nonce, no reason is stored.
+/// A revision that stores the reason of a Nack in the out-record that the face `face` has under one
+/// key. If the face has no out-record with the Nack's Nonce under this key, no reason is stored.
 #[derive(Drop)]
 pub struct NackOf {
     pub flags: Flags,

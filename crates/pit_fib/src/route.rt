@@ -61,7 +61,7 @@ impl Route {
     }
 
     /// Returns whether the route is a capture route. The name of a capture route inherits nothing,
-    /// and the names below it inherit nothing from its proper prefixes.
+    /// and the names below this name inherit nothing from the proper prefixes of this name.
     pub fn is_capture(self) -> bool
         ensures { result ≡ is_capture self }
     {

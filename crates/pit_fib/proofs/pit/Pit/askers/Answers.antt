@@ -13,7 +13,7 @@ use Rattle.pit_fib.proofs.AskedFaces.{along_faces, along_rising, both_faces, bot
 use Rattle.pit_fib.proofs.pit.Pit.askers.Goals as goal
 use Rattle.pit_fib.proofs.pit.Pit.askers.Goals.{After-add_of, Then-not-has_below}
 
--- ---- the walk along the name, and then the full name
+-- ---- the walk along the name, and then the lookup of the full name
 
 first : (c : After-add_of) → c.look_along.new.look ≡ taken_along (with_answered true) (with_answered false) [] (get c.self.inside.rows.table) [] (components c.args.packet.now.name)
 first c =
@@ -34,7 +34,7 @@ returns-clause-faces c = λ f.
     (subst (λ d. IsTrue (has_face f c.add_of.new.faces) ↔ WaitsFor (pending_of c.self.inside.rows.table) name d f) c.digest-digest.ensures.exact
     (both_faces name c.digest-digest.result c.self.inside.rows.table c.self.invariant.0.few c.look_along.new.look (first c) c.add_of.new.faces (second c) f))
 
--- ---- no value is stored below the name
+-- ---- the case that no value is stored under the name followed by a digest component
 
 all_along : (c : Then-not-has_below) → c.look_along.new.look ≡ taken_along (with_answered true) (with_answered false) [] (get c.self.inside.rows.table) [] (components c.args.packet.now.name)
 all_along c =

@@ -18,7 +18,7 @@ use Rattle.pit_fib.proofs.Tokenless.{bare_goes, step_knows}
 use Rattle.pit_fib.proofs.pit.Pit.satisfy.Goals as goal
 use Rattle.pit_fib.proofs.pit.Pit.satisfy.Goals.{After-take_below, Else-asks_digest}
 
--- ---- the walk along the name, and then the full name
+-- ---- the walk along the name, and then the removals under the full name
 
 digest : After-take_below → List ℕ
 digest c = sha256 c.args.packet.now.whole.now
@@ -81,7 +81,7 @@ pub returns-then-asks_digest-clause-living : goal.returns-then-asks_digest-claus
 returns-then-asks_digest-clause-living c =
     holds_the_living c.take_below.new.self.table _ (step_alive (Satisfied (components c.args.packet.now.name) (digest c)) c.self.inside.rows.table c.take_below.new.self.table (steps c)) refl
 
--- ---- no value is stored below the name
+-- ---- the case that no value is stored under the name followed by a digest component
 
 nothing : (c : Else-asks_digest) (d : List ℕ) → get c.take_along-asks_digest.new.self.table (full_name (components c.args.packet.now.name) d) ≡ None
 nothing c d = c.take_along-asks_digest.ensures.below c.if-asks_digest.false (1, d) (lit≤ tt)
