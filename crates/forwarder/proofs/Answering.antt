@@ -50,7 +50,7 @@ use Rattle.forwarder.proofs.Requests.{for_data}
 use Rattle.forwarder.proofs.Soundness.{step_sound}
 use Rattle.forwarder.proofs.Uses.{data_use}
 
--- ---- what the cache or the repository gives is a Data
+-- ---- Data that the cache or the repository gives fit in a packet and are not Nacks
 
 -- octets that fit in a packet and that are not a Nack
 abbrev pub CanGoBack : List ℕ → Type 0

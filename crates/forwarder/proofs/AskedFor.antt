@@ -1,6 +1,7 @@
--- Let the repository be empty at the start of a run. If a Data is sent to a face, this face asked
--- for the Data. If `is_data` is true of sent octets, but the octets are not read as a Data, then
--- the octets are the node's own answer to an Interest from the face that the octets are sent to.
+-- Let the repository be empty at the start of a valid run. If a Data is sent to a face, this face
+-- asked for the Data. If `is_data` is true of sent octets, but the octets are not read as a Data,
+-- then the octets are the node's own answer to an Interest from the face that the octets are sent
+-- to.
 use Rattle.std.proofs.Common.{◌≡◌, ℕ, Bool, true, false, cond, List, [], ◌∷◌, refl, sym, ap, subst, ◌∙◌, Result, Ok, Err, inl, inr}
 use Rattle.std.specs.Prelude.{◌≢◌, IfSome, Option, Some, None, Contains, IsSome, IsTrue, max}
 use Rattle.std.specs.FinMap as map

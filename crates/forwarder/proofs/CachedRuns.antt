@@ -1,4 +1,4 @@
--- Each Data that a cache may hold after a run was allowed in an event of the run.
+-- Each Data that a cache may hold after a valid run was allowed in an event of the run.
 use Rattle.std.proofs.Common.{◌≡◌, ℕ, Bool, true, false, List, refl, sym, ap, subst, ◌∙◌, Result, Ok, inl, inr}
 use Rattle.std.specs.Prelude.{Some, None, max, not, if◌then◌else◌}
 use Rattle.sha2.specs.Sha256.{sha256}
@@ -24,8 +24,8 @@ use Rattle.forwarder.specs.Runs.{Run, Start, Then, IsRun, MayHold, MayReply, now
 use Rattle.forwarder.specs.Allowed.{Allows, AllowedAt, AllowedIn}
 use Rattle.forwarder.proofs.Uses.{closing_inserts, read_inserts}
 
--- the octets of `c` are a Data that was allowed at the moment `c.arrival`, and `c` has the name,
--- the implicit digest and the FreshnessPeriod of this Data
+-- the octets of `c` are a Data that was allowed in the run when the node's time was `c.arrival`,
+-- and `c` has the name, the implicit digest and the FreshnessPeriod of this Data
 abbrev pub CameAllowed : Policy → Run → CachedData → Type 0
 CameAllowed first run c = (d : PlainData) × AllowedAt first run (AData c.octets d) c.arrival × (c.name ≡ d.name) × (c.digest ≡ sha256 c.octets) × (c.freshness ≡ d.freshness)
 

@@ -1,4 +1,5 @@
--- Each face that a strategy chooses is open, and is not the face that the Interest came from.
+-- If all faces with next hops or routes are open, then each face that a strategy chooses is open. A
+-- chosen face is never the face that the Interest came from.
 use Rattle.std.proofs.Common.{◌≡◌, ℕ, Bool, true, false, cond, List, [], ◌∷◌, length, subst}
 use Rattle.std.specs.Prelude.{IsSome, All, Contains, fold, ◌||◌}
 use Rattle.std.proofs.lemmas.List.Elements.{All-nil, All-cons, All-head, All-tail, All-contains, All-map}

@@ -454,8 +454,8 @@ never_long text whole d read = by_long (nat_lt 9000 (length text)) refl
     by_long false e = ltb-false 9000 (length text) e
     by_long true e = (let none = frame_is text ∙ ap (λ (b : Bool). framed text b (element_at text)) e in cc (none, read))
 
--- Let a packet that begins with the type of a Data be sent back, with a token or without one. If
--- what is sent is read as a Data, the packet is exactly the octets of that Data.
+-- Let a packet that begins with the type of a Data be sent back, with a valid token or without a
+-- token. If what is sent is read as a Data, the packet is exactly the octets of that Data.
 pub back_holds : (token : Token) (packet whole : List ℕ) (d : PlainData) → IfSome token IsToken → begins 6 packet ≡ true → frame_at (lp_text token None packet) ≡ Ok (AData whole d)
     → packet ≡ whole
 back_holds None packet whole d is begun read = data_is_whole packet whole d begun read

@@ -97,7 +97,7 @@ pub mild_closing : (b : Bool) → Mild (if b then passed [] else dropped NoFace)
 mild_closing true = refl
 mild_closing false = refl
 
--- ---- a denied packet has no effect
+-- ---- if no two keys have the same name, a denied event has no effect on the policy
 
 -- the decision `said` on the packet leaves the policy unchanged
 abbrev IsIdle : Policy → ℕ → PlainFrame → Decision → Type 0

@@ -15,7 +15,7 @@ use Rattle.pit_fib.specs.Fib.{Entry, LeadsTo, Routes, entry_at, no_entry}
 use Rattle.pit_fib.specs.Route.{is_child_inherit, route_cmp-total}
 use Rattle.pit_fib.specs.Tables.{ByFace}
 
--- ---- the key of each entry of a map is found in the map
+-- ---- a lookup of the key of any entry of a map finds a value
 
 module _ {K X : Type 0} {R : K → K → Ordering} (order : IsTotalOrder R) where
   here_or_later : (b : Bool) (x : X) (o : Option X) → IsSome o → IsSome (cond b (Some x) o)

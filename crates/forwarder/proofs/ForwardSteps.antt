@@ -106,7 +106,7 @@ module _ (faces : List FaceEntry) (few : length faces ≤ MAX_FACES) (rising : I
 pub room_for_open : (s : NodeState) (face : ℕ) → IsSound s → is_open face s.policy.faces ≡ true → HasRoomFor s.pending face
 room_for_open s face sound here = room_within s.policy.faces sound.few sound.rising s.pending sound.records face here
 
--- ---- the Interest is sent to one more face
+-- ---- the sending of the Interest to one more face
 
 settled_alive : (r : Records) → is_alive r ≡ true → is_alive (settled r) ≡ true
 settled_alive r alive = subst (λ (b : Bool). is_alive (cond b r no_records) ≡ true) (sym alive) alive

@@ -1,5 +1,5 @@
--- A step leaves a sound node sound. A step that does not run out of memory extends the runs that
--- the node agrees with.
+-- A step leaves a sound node sound. A step that does not run out of memory extends each valid run
+-- that starts from a policy with the time 0, if the node agrees with the run.
 use Rattle.std.proofs.Common.{◌≡◌, ℕ, List, [], length, drop, Result, Ok, Err, refl, sym, ap, subst, ◌∙◌}
 use Rattle.std.specs.Prelude.{IfOk, OnErr}
 use Rattle.std.proofs.lemmas.List.{append-nil, drop_at}

@@ -123,7 +123,7 @@ policy_now first Start p zero h = ap (λ (q : Policy). q.now) h ∙ zero
 policy_now first (Then before event answer) p zero h =
     after_now h.0 p event h.2 ∙ ap (λ (n : ℕ). max n (moment event)) (policy_now first before h.0 zero h.1)
 
--- ---- the keys in force have different names
+-- ---- no two keys in force have the same name, if no key book of the run has two such keys
 
 apart_after : (event : PlainEvent) (keys : List NamedKey) → AreApart keys → BringsKeysApart event → AreApart (keys_after event keys)
 apart_after (Packet face now octets) keys apart brings = apart
@@ -142,7 +142,7 @@ books_apart first Start apart brings = apart
 books_apart first (Then before event answer) apart brings =
     (books_apart first before apart (All-tail BringsKeysApart event (events_back before) brings), All-head BringsKeysApart event (events_back before) brings)
 
--- ---- the rules and keys in force are those of the last event that brought new ones
+-- ---- the rules and keys in force are the last that an event brought, or else those of `first`
 
 brings_none : (event : PlainEvent) (rules : List PlainRule) (keys : List NamedKey) → BringsNoRules event
     → (rules_after event rules ≡ rules) × (keys_after event keys ≡ keys)
@@ -215,7 +215,7 @@ none_or_last (Then before (NewRules rules keys now) answer) = inr (
   record { later = []; now = now; earlier = events_back before; are_events = refl; are_last = All-nil BringsNoRules },
 )
 
--- ---- two moments in a row
+-- ---- time that advances to one moment and then to another
 
 later_lt : (m n x : ℕ) → m ≤ n → nat_lt m x ≡ false → nat_lt n x ≡ false
 later_lt m n x le is = grind (arith, nat_tests, le, is)

@@ -1,4 +1,5 @@
--- What a replay guard records, and that a command is allowed only once.
+-- What a replay guard records. If no key book has two keys of the same name, a command is allowed
+-- only once.
 use Rattle.std.proofs.Common.{◌≡◌, ℕ, ◌<◌, Bool, true, false, List, [], ◌∷◌, refl, sym, ap, subst, ◌∙◌, Result, Ok, Err, inl, inr, arith}
 use Rattle.std.specs.Prelude.{◌⊎◌, Option, Some, None, IsSome, IfSome, if◌then◌else◌}
 use Rattle.std.specs.FinMap as map

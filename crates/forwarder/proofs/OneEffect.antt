@@ -1,5 +1,5 @@
--- If no two keys of the policy before an event have the same name, then the policy after the
--- event is a function of the policy before it and of the event.
+-- If no two keys of the policy before an event have the same name, then the policy after the event
+-- is a function of the policy before the event and of the event.
 use Rattle.std.proofs.Common.{◌≡◌, sym, ap, ◌∙◌, inl, inr}
 use Rattle.std.specs.Prelude.{Option, Some, None}
 use Rattle.hmac_keys.specs.KeyFile.{AreApart}

@@ -105,8 +105,9 @@ more_here f (y ∷ ys) (suc i) x e =
 one_more : (i : ℕ) → suc i ≡ i + 1
 one_more i = omega arith
 
--- Let `rest` be the faces before index `i`, without `f`. If the face at index `i` is not `f`, then
--- adding this face to `rest` gives the faces before index `i + 1`, without `f`.
+-- Let `xs` be in rising order, and let `i` be less than 64. Let `rest` be the faces before index
+-- `i`, without `f`. If the face at index `i` is not `f`, then adding this face to `rest` gives the
+-- faces before index `i + 1`, without `f`.
 pub kept_here : (f : ℕ) (xs : List ℕ) (i x : ℕ) (rest new : List ℕ) → IsRising xs → slice_get xs i ≡ Some x → i < MAX_FACES → rest ≡ but_for f (take i xs) → eqb x f ≡ false → new ≡ (adding x rest).1 → new ≡ but_for f (take (i + 1) xs)
 kept_here f xs i x rest new rising at lt was apart is =
     let few : length (but_for f (take i xs)) < MAX_FACES = omega (arith, length_filter (λ g. not (eqb g f)) (take i xs), length_here xs i, lt) in

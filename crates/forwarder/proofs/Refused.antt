@@ -1,5 +1,5 @@
 -- How a command is answered once time has advanced to the command's moment: the command is carried
--- out or refused.
+-- out or denied.
 use Rattle.std.proofs.Common.{◌≡◌, ℕ, Bool, true, List, [], ◌∷◌, ◌++◌, refl, sym, ap, subst, ◌∙◌}
 use Rattle.std.specs.Prelude.{codes, max}
 use Rattle.ndn_packets.specs.Packet.{PlainInterest, AnInterest}

@@ -1,6 +1,6 @@
 -- How one event changes a value that the routes determine, such as a next hop or a registered
--- route, once time has advanced to the event's moment: only the closing of a face and a command
--- with status 200 can change the value.
+-- route, once time has advanced to the event's moment. If no two keys in force have the same name,
+-- only the closing of a face and a command with status 200 can change the value.
 use Rattle.std.proofs.Common.{◌≡◌, ℕ, Bool, true, false, cond, List, refl, sym, ap, ◌∙◌, Result, Ok, Err}
 use Rattle.std.specs.Prelude.{[], Option, Some, None, not, ◌==◌}
 use Rattle.hmac_keys.specs.KeyFile.{AreApart}

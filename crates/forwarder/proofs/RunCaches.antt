@@ -1,4 +1,5 @@
--- After a step of a run, `MayHold` is true of each Data in the cache.
+-- Let a node agree with a run that starts from a policy with the time 0. After a step of the node,
+-- `MayHold` is true of each Data in the cache.
 use Rattle.std.proofs.Common.{◌≡◌, ℕ, List, ◌∷◌, get_or, refl, sym, ap, subst, ◌∙◌, inl, inr}
 use Rattle.std.specs.Prelude.{◌⊎◌, Option, Some, None, max, not}
 use Rattle.std.specs.List.{All, Contains}

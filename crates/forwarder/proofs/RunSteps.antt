@@ -1,4 +1,5 @@
--- A step of a node that agrees with a run extends the run.
+-- If a run starts from a policy with the time 0, a step of a node that agrees with the run extends
+-- the run.
 use Rattle.std.proofs.Common.{◌≡◌, ℕ, Bool, true, false, List, ap, subst, ◌∙◌, Result, Ok, Err}
 use Rattle.std.specs.Prelude.{Option, Some, None, max, nat_le}
 use Rattle.std.specs.List.{All}
@@ -66,7 +67,7 @@ module _ (p : Policy) (records : PlainKey → Records) (full : Bool) (G H : Plai
   more_replies (Tick now) answer h = h
   more_replies (NewRules rules keys now) answer h = h
 
--- ---- the time, records and cached Data of a node agree with the past
+-- ---- how the time, records and cached Data of a node agree with the past
 
 -- if `MayHold` is true of all cached Data, then `MayCache` is true of what the cache gives
 gives_held : (past : Run) (now : ℕ) (cached : List CachedData) → All (MayHold past) cached → (key : PlainKey) (given : Option (List ℕ))

@@ -1,5 +1,5 @@
--- A new node agrees with the empty run. A step of a node that agrees with a run extends the run,
--- unless the step runs out of memory.
+-- A new node agrees with the empty run. If a valid run starts from a policy with the time 0, a step
+-- of a node that agrees with the run extends the run, unless the step runs out of memory.
 use Rattle.std.proofs.Common.{◌≡◌, ℕ, [], refl, sym, ap, subst, ◌∙◌}
 use Rattle.std.specs.Prelude.{Option, unwrap_or}
 use Rattle.std.specs.FinMap as map
@@ -20,8 +20,8 @@ pub new_stands : (first : Policy) (capacity : ℕ) → Stands first Start (recor
 new_stands first capacity =
     record { policy = refl; pending = λ key. ap (λ (o : Option Records). unwrap_or o no_records) (get-empty key_cmp key); cache = All-nil (MayHold Start) }
 
--- a step of a node that agrees with a valid run extends the run to a longer valid run, with which
--- the new node agrees
+-- if a valid run starts from a policy with the time 0, a step of a node that agrees with the run
+-- extends the run to a longer valid run, with which the new node agrees
 pub step_goes_on : (first : Policy) (past : Run) (old new : NodeState) (event : PlainEvent) (answer : Answer) → first.now ≡ 0 → IsRun first past → Stands first past old → IsStep old event answer new
     → IsRun first (Then past event answer) × Stands first (Then past event answer) new
 step_goes_on first past old new event answer begins is_run stands step = (

@@ -1,4 +1,5 @@
--- Each object that the repository stores is a Data.
+-- If each object that the repository stores is a Data, this is still true once time has advanced,
+-- and after each event.
 use Rattle.std.proofs.Common.{◌≡◌, ℕ, Bool, true, false, List, sym, ap, subst, ◌∙◌, Result, Ok, Err}
 use Rattle.std.specs.Prelude.{⊤}
 use Rattle.ndn_tlv.specs.declared.memory.Memory.{Memory}

@@ -91,7 +91,8 @@ held_ticks (Then before event answer) (Then other another reply) (t, inr (d, e, 
 held_ticks (Then before event answer) (Then other another reply) (t, inr (d, e, a)) c (inr (h, stays)) =
     subst (λ (x : PlainEvent). MayHold (Then other x reply) c) (sym e) (inr (held_ticks before other t c h, λ takes. takes))
 
--- a denied event leads to the same policy as a tick at the event's moment
+-- if no key book has two keys of the same name, a denied event leads to the same policy as a tick
+-- at the event's moment
 denied_after : (first : Policy) (before : Run) (event : PlainEvent) (answer : Answer) (was p : Policy) → KeysAreApart first before → MayReply first before event answer
     → is_denied answer.verdict ≡ true → IsPolicyOf first before was → IsAfter was event p → IsAfter was (Tick (moment event)) p
 denied_after first before event answer was p apart reply d is after =

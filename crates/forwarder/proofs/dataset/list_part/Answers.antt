@@ -14,8 +14,8 @@ use Rattle.forwarder.proofs.ReplyLengths.{segment_at_len}
 use Rattle.forwarder.proofs.dataset.list_part.Goals as goal
 
 -- Let `made` be a segment of the route list, made from all of `routes` at the time `now`. Then
--- `made` is also the segment for each policy whose time is `now` and whose routes are what remains
--- of `routes` at `now`.
+-- `made` is also the segment for each policy whose time is `now`, whose routes are what remains of
+-- `routes` at `now`, and whose strategies are `choices`.
 made_of_left : (now number : ℕ) (routes : Routes) (choices : Choices) (kind : ListKind) (made : Result (Option (Vec ℕ Global × ℕ)) Memory) → kind ≡ RouteList
     → IfOk made (λ part. option_map (λ s. (s.0.items, s.1)) part ≡ segment_at (fib_text now routes) number)
     → IfOk made (λ part. (p : Policy) → p.now ≡ now → p.routes ≡ left_at now routes → p.choices ≡ choices
