@@ -60,7 +60,7 @@ known_end (Some xs) None P front h e k = absurd h
 known_end (Some xs) (Some ys) P front h e k =
     subst P (sym (h ∙ ap (λ (t : List ℕ). front ++ t) e ∙ append-nil front)) k
 
--- ---- octets that follow those that were read
+-- ---- a chunk of octets that follows the octets handled before
 
 shape_more : (j l c : List ℕ) → (j ++ (l ++ [])) ++ c ≡ j ++ (l ++ c)
 shape_more j l c = rw (append-nil l) (append_assoc j l c)
@@ -186,7 +186,7 @@ module _ (first : NodeState) (fresh : IsNew first) where
   Stops-chunk f unread left held holds new front chunk mid line fed read h =
       Stops-from_feed f unread left held new (front ++ chunk) read (FeedStops-after f front chunk (start first) mid line held holds new fed h)
 
-  -- if a read fails, the run stops with the fault Read
+  -- if a read fails, or the reader was called too often, the run stops with the fault Read
   pub Stops-read : (unread left held holds : Option (List ℕ)) (front : List ℕ) (mid : Place) (line : List ℕ) → Fed front (start first) mid line [] held holds
       → Consumes unread left front → Lacks 10 line → Stops first fault.Read unread left held holds
   Stops-read unread left held holds front mid line fed read lacks = (
@@ -233,7 +233,8 @@ module _ (first : NodeState) (fresh : IsNew first) where
             (fed.lines, ended line ++ [], (plays.are_lines, ap ended fed.stream_is ∙ shape_end (joined fed.lines) line), plays.say),
       )
 
-  -- if the last line is run without a fault, and the reader is at its end, the whole script was run
+  -- if the last line is run without a fault, its answer is written, and the reader is at its end,
+  -- the run ends as `Ends` states
   pub Ends-last : (unread left held holds new : Option (List ℕ)) (front : List ℕ) (mid to : Place) (line text : List ℕ) → Fed front (start first) mid line [] held holds
       → Consumes unread left front → IsAtEnd left → Plays (line ∷ []) mid to text → Appends holds new text → Ends first unread left held new
   Ends-last unread left held holds new front mid to line text fed read end last written =

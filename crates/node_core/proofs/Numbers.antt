@@ -18,7 +18,7 @@ Digits ds = AllDigits 10 ds
 own : IsNumeralModel Digits (digits_value 10)
 own = numerals_by_value Digits (search rules)
 
--- the first octet of a number's text is at least the digit 0
+-- the first octet of the decimal text of a number below 2 ^ 64 is at least the digit 0
 pub first_of_decimal : (n : ℕ) → n < 2 ^ 64 → 48 ≤ get_or (decimal n) 0 0
 first_of_decimal zero lt = rw (decimal_digit 0 (omega arith)) (omega arith)
 first_of_decimal (suc n) lt = let h = first_decimal (suc n) (omega arith) lt in omega arith

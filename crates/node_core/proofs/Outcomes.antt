@@ -1,4 +1,4 @@
--- Events that were answered one after another.
+-- Events that were handled one after another. Memory may have run out for some of them.
 use Rattle.std.proofs.Common.{◌≡◌, List, [], ◌∷◌, ◌++◌, subst, sym}
 use Rattle.forwarder.specs.Event.{PlainEvent}
 use Rattle.forwarder.specs.Node.{NodeState}

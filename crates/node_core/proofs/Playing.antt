@@ -243,7 +243,7 @@ TurnsBad-long stream long lines is lacks h = λ more.
     let f = first_line more in
     (long ++ f.0, f.1, ap (λ (t : List ℕ). ended (t ++ more)) is ∙ shape_long (joined lines) long more f.0 f.1 f.2, Lacks-append 10 long f.0 lacks f.3, IsBadLine-long (long ++ f.0) (omega (arith, length-append long f.0)))
 
--- ---- octets that were read so far
+-- ---- the octets that were read so far
 
 -- Running the finished lines of a stream changed the state `from` to the state `to`. The stream
 -- consists of the finished lines, the unfinished line `line`, and the octets `rest`, which are not
@@ -313,7 +313,7 @@ FeedStops-line (fault.Node n) stream from mid line rest front after held holds f
 FeedStops-line fault.Memory stream from mid line rest front after held holds fed is la lb h =
     (fed.lines, mid, fed.text, line ++ rest, fed.plays, AppendsFront-all held holds fed.text fed.written, fed.stream_is)
 
--- ---- answers that were gathered and are then written
+-- ---- answers that are first collected and then written
 
 gathered : (a : List ℕ) (text : List ℕ) (held holds : Option (List ℕ)) → a ≡ [] ++ text → Appends held holds a → Appends held holds text
 gathered a text held holds is written = subst (Appends held holds) is written
@@ -374,7 +374,8 @@ module _ (stream : List ℕ) (from to : Place) (line after : List ℕ) (held hol
   gathered_cut_of (Err f) played stopped cut = FeedStops-cut f stream from after held holds stopped cut
 
 module _ (result : Result (Unit {0}) RunFault) (stream : List ℕ) (from : Place) where
-  -- In this module, answers are gathered in a text that is empty at first, and are then written.
+  -- In this module, answers are gathered in a text that is empty at first. Then this text, or a
+  -- prefix of it, is written.
   module _ (to : Place) (line before after : List ℕ) (held holds : Option (List ℕ)) (none : before ≡ []) where
     pub gathered_written : OnOk result ((lines : List (List ℕ)) × (text : List ℕ) × Plays lines from to text × Appends (Some before) (Some after) text × (stream ≡ joined lines ++ line))
         → Appends held holds after

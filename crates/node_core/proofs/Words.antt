@@ -16,7 +16,7 @@ use Rattle.node_core.specs.Script.Line.{Lacks, scope_word, HexSpells, LineSpells
 use Rattle.node_core.proofs.Lists.{Lacks-from_test, cut_once, cut_twice_once, Lacks-no_cut}
 use Rattle.node_core.proofs.Numbers.{decimal-Lacks}
 
--- the empty word does not encode octets
+-- the empty word is not the hexadecimal of any octets, not even of zero octets
 pub HexSpells-empty : (octets : List ℕ) → HexSpells octets [] → ⊥
 unfolding decode_pairs
 HexSpells-empty [] h = cc h

@@ -1,5 +1,5 @@
--- How a run of a script ends. The definitions relate the unread octets of the reader before the run
--- to those after the run, if these octets are known. They do the same for the octets of the writer.
+-- How a run of a script ends. The definitions relate the events that were handled to the octets of
+-- the reader and to the octets of the writer, before and after the run, if these octets are known.
 use Rattle.std.specs.Prelude.{◌≡◌, ℕ, Option, IfSome, List, ◌++◌}
 use Rattle.std.specs.Io.KnownBytes.{Appends, Consumes, Keeps, IsAtEnd}
 use Rattle.forwarder.specs.Event.{PlainEvent}

@@ -76,7 +76,7 @@ IsEventLine event line = IsShort line × LineSpells event line
 abbrev pub IsBadLine : List ℕ → Type 0
 IsBadLine line = (IsSkipped line → ⊥) × ((event : PlainEvent) → IsEventLine event line → ⊥)
 
--- what the line is: skipped, a line of this event, or bad
+-- the first argument says what the line is: skipped, a line of the given event, or bad
 abbrev pub LineIs : Line → List ℕ → Type 0
 LineIs said.Skipped line = IsSkipped line
 LineIs (said.Event event) line = IsEventLine (plain_owned event) line

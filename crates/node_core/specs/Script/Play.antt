@@ -110,9 +110,9 @@ TurnsBad stream lines = (more : List ℕ) → (line rest : List ℕ)
 
 -- The possible faults of handling the octets `stream` in the state `from`. The octets of the writer
 -- are `held` before and `holds` afterwards. If they are not known (None), nothing is stated about
--- what was written. `BadLine`: the answers to the lines before the bad line were written. `Write`
--- and `Memory`: for some lines at the beginning of `stream`, zero or more of them, a prefix of the
--- text of the answers to these lines was written.
+-- what was written. `BadLine` with the number of the first bad line: the answers to the lines
+-- before this line were written. `Write` and `Memory`: for some lines at the beginning of `stream`,
+-- zero or more of them, a prefix of the text of the answers to these lines was written.
 abbrev pub FeedStops : RunFault → List ℕ → Place → Option (List ℕ) → Option (List ℕ) → Type 0
 FeedStops (fault.BadLine n) stream from held holds =
     (lines : List (List ℕ)) × (to : Place) × (text : List ℕ) × Plays lines from to text

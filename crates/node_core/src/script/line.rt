@@ -151,7 +151,7 @@ fn new_rules(alloc: Global, text: &[u8]) -> Result<Option<OwnedEvent>, Memory>
 }
 
 /// Reads the rule file whose octets the word encodes. Returns `None` if the word does not encode
-/// octets or the rule file has a fault.
+/// octets or these octets are not a valid rule file.
 fn rules_of(alloc: Global, word: &[u8]) -> Result<Option<Rules>, Memory>
     ensures found { IfOk result (λ read. IfSome read (λ rules. SpellsRules rules word.now)) }
     ensures none { IfOk result
@@ -170,7 +170,7 @@ fn rules_of(alloc: Global, word: &[u8]) -> Result<Option<Rules>, Memory>
 }
 
 /// Reads the key file whose octets the word encodes. Returns `None` if the word does not encode
-/// octets or the key file has a fault.
+/// octets or these octets are not a valid key file.
 fn keys_of(alloc: Global, word: &[u8]) -> Result<Option<KeyBook>, Memory>
     ensures found { IfOk result (λ read. IfSome read (λ keys. SpellsKeys keys word.now)) }
     ensures none { IfOk result

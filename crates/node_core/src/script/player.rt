@@ -20,8 +20,8 @@ use std::io::{Read, Write};
 /// The greatest number of octets in one read.
 pub const CHUNK: usize = 65_536;
 
-/// The state of running a script: the node, buffers for its packets and answers, and the numbers of
-/// lines and events that were handled.
+/// The state of running a script: the node, buffers for the packets that the node sends and for the
+/// answers, and the numbers of lines and events that were handled.
 #[derive(Drop)]
 pub struct Player {
     pub alloc: Global,

@@ -120,7 +120,8 @@ fn fill(octets: &mut [u8], digits: &[u8]) -> bool
     greatest < 16
 }
 
-/// Returns the value of a hexadecimal digit of either case, or 255 if the octet is not a digit.
+/// Returns the value of a hexadecimal digit of either case, or 255 if the octet is not a
+/// hexadecimal digit.
 #[inline(always)]
 fn value_of(digit: u8) -> u8
     ensures { MatchOption (hex_digit_value digit) (result ≡ 255)
