@@ -1,4 +1,5 @@
--- Whether an event is journalled. An event that is not journalled only advances the time.
+-- Whether an event is journalled. An event that is not journalled only advances the time of the
+-- policy.
 use Rattle.std.proofs.Common.{◌≡◌, inl, inr, ℕ, Bool, true, false, refl, sym, ap, ◌∙◌}
 use Rattle.std.specs.Prelude.{Option, Some, None, if◌then◌else◌}
 use Rattle.sha2.specs.Sha256.{sha256}
@@ -17,7 +18,7 @@ use Rattle.forwarder.specs.Deciding.{IsDecidedAs}
 use Rattle.forwarder.specs.Effects.{IsAfter, IsEffect, after_packet, after_decision, can_open, decided_packet, face_in, undecided_effect}
 use Rattle.journal.specs.Journal.{IsChosen, IsJournalled, is_journalled_as, is_journalled_packet, is_journalled_undecided}
 
--- ---- if one decision allows a packet, every decision on the packet allows it
+-- ---- if the keys have different names, and one decision allows a packet, every decision does
 
 abbrev is_allowed : Decision → Bool
 is_allowed (Allowed rule) = true
@@ -54,7 +55,7 @@ one_choice old event a b apart x y =
     let p = at_moment old (moment event) in
     one_of p event (decided_packet p event) a b apart x y
 
--- ---- an event that is not journalled
+-- ---- events that are not journalled
 
 second : {A : Type 0} (b : Bool) (x y : A) → b ≡ false → (if b then x else y) ≡ y
 second true x y is = cc is

@@ -1,4 +1,5 @@
--- Replaying the events of a run's journal leads to the policy of the run.
+-- Replaying the events of a run's journal leads to a policy that is the same as the policy of the
+-- run from the latest time of the run on.
 use Rattle.std.proofs.Common.{◌≡◌, ◌≤◌, ℕ, Bool, true, false, List, [], ◌∷◌, ◌++◌, length, length-append, arith, refl, sym, ap, subst, ◌∙◌}
 use Rattle.std.specs.Prelude.{max}
 use Rattle.hmac_keys.specs.KeyFile.{AreApart}
@@ -31,7 +32,7 @@ one_end (c ∷ a) (d ∷ b) x y e =
     let first : c ≡ d = cc in
     record { front = cc (first, same.front); last = same.last }
 
--- ---- a run has one journal
+-- ---- a run that leads to a policy has a journal, and only one if its keys have different names
 
 pub policy_once : (first p q : Policy) (past : Run) → KeysAreApart first past → IsPolicyOf first past p → IsPolicyOf first past q → p ≡ q
 policy_once first p q past apart h k = one_policy first p q past past apart (one_history past) h k

@@ -53,7 +53,7 @@ words_lack [] h = tt
 words_lack (a ∷ []) h = h.0
 words_lack (a ∷ b ∷ parts) h = Lacks-append 10 a (32 ∷ words (b ∷ parts)) h.0 (λ e. omega arith, words_lack (b ∷ parts) h.1)
 
--- ---- words with an LF
+-- ---- two or three words, followed by an LF
 
 two_ended : (a b : List ℕ) → a ++ (32 ∷ (b ++ (10 ∷ []))) ≡ (a ++ (32 ∷ b)) ++ (10 ∷ [])
 two_ended a b = sym (append_assoc a (32 ∷ b) (10 ∷ []))

@@ -40,7 +40,7 @@ pub line_once : (line : List ℕ) (a b : PlainEvent) → Lacks 10 line → IsEve
 line_once line a b lacks x y =
     let same : a ∷ [] ≡ b ∷ [] = say_once (line ∷ []) (a ∷ []) (b ∷ []) (lacks, tt) (inr (x, tt)) (inr (y, tt)) in cc same
 
--- ---- a text is split into lines in one way
+-- ---- there is only one way to split a text into lines
 
 pub first_line : (line rest : List ℕ) → ended line ++ rest ≡ line ++ (10 ∷ rest)
 first_line line rest = append_assoc line (10 ∷ []) rest

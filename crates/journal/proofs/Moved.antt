@@ -31,7 +31,7 @@ moved_keys now (FaceDown face t) apart = apart
 moved_keys now (Tick t) apart = apart
 moved_keys now (NewRules rules keys t) apart = apart
 
--- ---- for a fixed policy, the time of the event makes no difference
+-- ---- under a fixed policy, what is decided about an event does not depend on the event's time
 
 module _ (p : Policy) (now : ℕ) where
   same_packet : (event : PlainEvent) → decided_packet p event ≡ decided_packet p (with_moment now event)

@@ -1,6 +1,6 @@
--- The journal of a node: those events of a run that may change more than the time. The first policy
--- of the run and the events of the journal determine the policy at each time from the latest time
--- of the run on.
+-- The journal of a node: those events of a run that may change more of the policy than its time.
+-- The first policy of the run and the events of the journal determine the policy at each time from
+-- the latest time of the run on.
 use Rattle.std.specs.Prelude.{◌≡◌, ◌⊎◌, ◌≤◌, ℕ, Bool, true, false, List, [], ◌∷◌, ◌++◌, Option, None, Some, max}
 use Rattle.sha2.specs.Sha256.{sha256}
 use Rattle.ndn_packets.specs.Packet.{PlainFrame, AnInterest, AData, ANack, Idle}
@@ -33,7 +33,8 @@ is_journalled_as p packet (Denied rule reason) = false
 is_journalled_as p packet NoRule = false
 
 -- Whether an event is journalled, if the event brings no packet that the rules decide. Such an
--- event is journalled if it opens a face that can open, closes an open face, or brings new rules.
+-- event is journalled exactly if it opens a face that can open, closes an open face, or brings new
+-- rules.
 abbrev pub is_journalled_undecided : Policy → PlainEvent → Bool
 is_journalled_undecided p (Packet face now octets) = false
 is_journalled_undecided p (FaceUp face scope now) = can_open p face
