@@ -83,7 +83,7 @@ unfolding line_at
 line_past line [] rest = refl
 line_past line (o ∷ front) rest = line_past (line_after line o) front rest
 
--- ---- on which lines tokens are
+-- ---- the lines of tokens
 
 abbrev AllOn : (ℕ → Type 0) → List (ℕ × Token) → Type 0
 AllOn On tokens = AllByRecursion (λ (token : ℕ × Token). On token.0) tokens
@@ -117,7 +117,7 @@ from_line n mode line (o ∷ text) h =
     let next : n ≤ line_after line o = omega (arith, line_up line o) in
     one_on (λ l. n ≤ l) line (ended_by mode o) (tokens_from (mode_after mode o) (line_after line o) text) h (from_line n (mode_after mode o) (line_after line o) text next)
 
--- ---- on which lines faults are
+-- ---- the lines of faults
 
 -- the property `On` holds for the line of the block inside eight others, if there is such a block
 abbrev DeepOn : (ℕ → Type 0) → Option ℕ → Type 0
@@ -279,8 +279,8 @@ tokens_stopped ((line, token) ∷ some) more draft fault e = by_next (with_token
     by_next (Ok next) is further = tokens_one draft next line token (some ++ more) is ∙ further next (sym (tokens_one draft next line token some is) ∙ e)
     by_next (Err told) is further = tokens_faulty draft line token (some ++ more) told is ∙ (sym (tokens_faulty draft line token some told is) ∙ e)
 
--- if a block inside eight others opens on one of the first `n` lines, the fault of the text is on
--- one of these lines
+-- if a block inside eight others opens on one of the first `n` lines, and the remaining tokens are
+-- on later lines, the fault of the text is on one of the first `n` lines
 deep_told : (n line deep : ℕ) (draft : PlainDraft) (tokens : List (ℕ × Token)) (fault : RulesFault) → draft.deep ≡ Some deep → deep ≤ n → n + 1 ≤ line → AllOn (λ l. n + 1 ≤ l) tokens → ending line (with_tokens draft tokens) ≡ Err fault → fault.line ≤ n
 deep_told n line deep draft [] fault is low here all e =
     let other : eqb deep line ≡ false = ne_eqb deep line (λ same. omega (arith, same)) in

@@ -158,7 +158,7 @@ unfolding each
 anchors_meant [] h = ([], refl)
 anchors_meant (key ∷ keys) h = let others = anchors_meant keys h.1 in (tt ∷ others.0, rw (anchor_meant key h.0, others.1) refl)
 
--- ---- the ids of the rules in a file are different
+-- ---- rules with different ids have no fault of a repeated id
 
 not_equal : (a b : List ℕ) → a ≢ b → bytes_eq a b ≡ false
 not_equal a b differ = by_test (bytes_eq a b) refl
@@ -167,7 +167,7 @@ not_equal a b differ = by_test (bytes_eq a b) refl
     by_test true is = absurd (differ ((bytes_eq-Decides a b).0 is))
     by_test false is = refl
 
--- if the id of a rule differs from `id`, the rule does not have the fault of a repeated id
+-- if the id of a rule differs from `id`, the rule does not have the fault of repeating `id`
 no_same : (id : List ℕ) (key : Block) (rule : PlainRule) → (id_key key >>= value_of) ≡ Some rule.id → rule.id ≢ id → same_id_faults id key ≡ []
 unfolding same_id_faults
 no_same id key rule e differ = by_key (id_key key) e

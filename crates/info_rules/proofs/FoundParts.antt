@@ -83,7 +83,7 @@ needed_ok line (Ok None) x e = absurd cc
 needed_ok line (Ok (Some a)) x e = let same : a ≡ x = cc in ap (λ y. Ok (Some y)) same
 needed_ok line (Err d) x e = absurd cc
 
--- the first key that is `word` has a text, and this text is read as `x`
+-- the first key that is `word` has a value and no block, and this value is read as `x`
 pub record IsGiven (A : Type 0) (read : List ℕ → Option A) (word : List ℕ) (keys : List Block) (x : A) : Type 0 where
   pub key : Block
   pub text : List ℕ

@@ -118,7 +118,8 @@ first_less x y s t d = by d.0 d.5 d.6
     by [] e f = omega (arith, d.7, first_is x d.3 s d.1 e, first_is y d.4 t d.2 f)
     by (c ∷ common) e f = omega (arith, first_is x c s (common ++ d.3 ∷ d.1) e, first_is y c t (common ++ d.4 ∷ d.2) f)
 
--- group 1 captures the first `front` components of the name
+-- if the first atom matches `front` components, group 1 captures the first `front` components of
+-- the name
 group_one : (name : List Field) (front : ℕ) (late : List ℕ) (places : List (ℕ × ℕ)) → places ≡ places_of hierarchical_pattern name (front ∷ late) → part_of places name (OfGroup 1) ≡ take front name
 group_one name front late places e =
     let sum_is : sum (front ∷ []) - 0 ≡ front = grind arith in

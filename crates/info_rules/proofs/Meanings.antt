@@ -19,7 +19,7 @@ use Rattle.info_rules.specs.Meaning.{IsOneOf, HasOnly, Lacks, HasValue, OpensBlo
 use Rattle.info_rules.proofs.FoundParts.{beside_ok, value_ok}
 use Rattle.info_rules.proofs.Limits.{none_of_both, head_gave, no_key, no_fault}
 
--- ---- results that are values if their parts are values
+-- ---- a result is a value, not a fault, if none of its parts has a fault
 
 pub beside_again : {A : Type 0} (f : Option RulesFault) (g : Found A) (x : A) → f ≡ None → g ≡ Ok x → beside f g ≡ Ok x
 beside_again f g x p q = rw (p, q) refl

@@ -24,7 +24,7 @@ use Rattle.info_rules.specs.Decides.{reason_number, IsPassed, IsAtMost, IsGreate
 use Rattle.info_rules.proofs.Firsts.{within}
 use Rattle.info_rules.proofs.OneCheck.{one_check}
 
--- ---- there is only one first rule
+-- ---- at most one rule is the first that applies
 
 never : (rules : List PlainRule) (kind : Kind) (name : List Field) (n : ℕ) (rule : PlainRule) → NoneApplies rules kind name → IsFirst rules kind name n rule → ⊥
 never rules kind name n rule none h =
@@ -113,7 +113,7 @@ one_unfit packet reasons.KeyUnknown b p q = absurd p
 one_unfit packet reasons.Tag b p q = absurd p
 one_unfit packet reasons.Replay b p q = absurd p
 
--- ---- the checkers give only one result
+-- ---- the checkers give only one result if all keys have different names
 
 abbrev reason_of : ℕ → Reason
 reason_of n =
@@ -176,7 +176,7 @@ one_greatest keys all signed a b apart (inr p) (inl q) = absurd (some_there (λ 
 one_greatest keys all signed a b apart (inr p) (inr q) =
     one_reason a b (omega (arith, no_greater keys all signed a b apart q.0 p.1, no_greater keys all signed b a apart p.0 q.1))
 
--- ---- there is only one decision
+-- ---- there is only one decision if all keys have different names
 
 not_allowed : (keys : List NamedKey) (all : List Checker) (packet : SeenPacket) (reason : Reason) → AreApart keys → Allow keys all packet → Deny keys all packet reason → ⊥
 not_allowed keys all packet reason apart allow (inl u) = fit packet allow.0 reason allow.1 u

@@ -47,8 +47,8 @@ after_clean f told xs x others e none =
     let same : flat_map f xs ≡ flat_map f others = rw (e, none) refl in
     ap (after told) (sym same)
 
--- if the first element has one fault, adding this fault and then the faults of the other elements
--- adds the faults of all elements
+-- if the first element has exactly one fault, adding this fault, and then the faults of the other
+-- elements, gives the same report as adding the faults of all elements
 pub after_noted : {A : Type 0} (f : A → List RulesFault) (told new : Option RulesFault) (xs : List A) (x : A) (others : List A) (fault : RulesFault) → xs ≡ x ∷ others → f x ≡ fault ∷ [] → new ≡ after told (fault ∷ [])
     → after new (flat_map f others) ≡ after told (flat_map f xs)
 after_noted f told new xs x others fault e one is =

@@ -55,7 +55,7 @@ separator_is_small o h =
           ]
     ]
 
--- the end of a word is a character boundary of the text
+-- the end of the word at the start of a text is a character boundary of the text
 pub word_boundary : (text : List ℕ) → IsCharBoundary text (position_or_len is_separator text)
 word_boundary text =
     let few = prefix_len-le-length (λ o. not (is_separator o)) text in
@@ -76,7 +76,7 @@ begins_word : (o : ℕ) → is_separator o ≡ false → o ≢ 34 → begun_by o
 unfolding begun_by
 begins_word o plain bare = rw (ne_eqb o 34 bare, no_comment o plain, plain) refl
 
--- if the text starts with a word, this word is its first token
+-- if the text starts with an unquoted word, the first token is the token of this word
 pub word_at_front : (text : List ℕ) (line : ℕ) → 0 < length text → is_separator (get_or text 0 0) ≡ false → get_or text 0 0 ≢ 34
     → tokens_from Between line text ≡ (line, word_token (take (position_or_len is_separator text) text)) ∷ tokens_from Between line (drop (position_or_len is_separator text) text)
 unfolding tokens_from

@@ -117,7 +117,7 @@ all_say keys all signed (suc left) n earlier e so_far passed denied =
         let greatest = greater_of earlier reason in
         rest (Some greatest.0) (one_more keys all signed n x earlier reason greatest.0 low is c greatest.1 so_far)
 
--- ---- there is some decision
+-- ---- there is a decision on every Interest and every Data
 
 seen : (rules : List PlainRule) (keys : List NamedKey) (packet : SeenPacket) → ((decision : Decision) → DecideSeen rules keys packet decision → ⊥) → ⊥
 seen rules keys packet none =

@@ -166,9 +166,10 @@ abbrev Means : Option PlainEntry → PlainDraft → List (ℕ × Token) → List
 Means None draft tokens entries = IsBetweenEntries draft.closed draft.depth draft.ended tokens entries
 Means (Some entry) draft tokens entries = IsGoing entry draft.depth draft.ended tokens entries
 
--- `Means` holds if the remaining tokens spell the remaining entries, if `entries` is the entries of
--- the draft followed by the remaining entries, and if the first remaining entry of the innermost
--- open block is on a new line
+-- `Means` holds if the remaining tokens spell the remaining entries, if `AreLevels` holds for these
+-- entries, if `entries` is the entries of the draft followed by the remaining entries, and if the
+-- first remaining entry of the innermost open block is not on the line of the pending entry, or of
+-- the last closing brace if no entry is pending
 further : (draft : PlainDraft) (tokens : List (ℕ × Token)) (entries : List PlainEntry) (levels : Levels) → (pending : Option PlainEntry) → draft.pending ≡ pending → tokens ≡ level_tokens levels
     → (draft.pending ≡ None → StartsOff draft.closed (top levels)) → ((entry : PlainEntry) → draft.pending ≡ Some entry → BeginsOff entry.line (top levels)) → AreLevels draft.depth levels
     → entries ≡ entries_of draft ++ level_outline draft.depth levels → Means pending draft tokens entries

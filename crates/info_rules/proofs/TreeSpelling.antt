@@ -16,7 +16,7 @@ Next = Result PlainDraft RulesFault
 abbrev taken : PlainDraft → Next
 taken draft = Ok draft
 
--- ---- one token that may come next is added to the draft
+-- ---- the addition of one token that may come next
 
 in_time : (draft next : PlainDraft) (line : ℕ) (token : Token) → draft.deep ≡ None → with_fitting draft line token ≡ Ok next → with_token draft line token ≡ Ok next
 in_time draft next line token shallow e = ap (λ (deep : Option ℕ). unless_fault (deep_before deep line) (with_fitting draft line token)) shallow ∙ e
@@ -58,9 +58,10 @@ head_read draft head tokens shallow may = by_value head.value refl
         (first ((head.line, Word value) ∷ tokens)
         ∙ tokens_one (with_key draft head.line head.key) _ head.line (Word value) tokens (in_time (with_key draft head.line head.key) _ head.line (Word value) shallow (value_added (with_key draft head.line head.key) entry value refl refl)))
 
--- ---- the tokens of entries in sequence are read
+-- ---- reading the tokens of entries in sequence
 
--- there are no entries, or the first entry can be added next to the draft without a fault
+-- there are no entries, or the key of the first entry can be added to the draft as the next token
+-- without a fault
 abbrev Starts : PlainDraft → Nodes → Type 0
 Starts draft NoNode = Unit {0}
 Starts draft (Leaf head others) = MayBegin head.line draft.pending draft.closed

@@ -7,7 +7,7 @@ use Rattle.info_rules.specs.Tree.{PlainEntry}
 use Rattle.info_rules.specs.Words.{Token, Word, Open, Close, Broken, unescaped, tokens_in, end_line}
 use Rattle.info_rules.specs.TreeReading.{syntax, PlainDraft, entries_of, Next, with_key, with_value, is_on, with_word, with_open, with_close, with_fitting, deep_before, unless_fault, with_token, with_tokens, whole_of, entries_in, begun, IsTreeFaultOf}
 
--- ---- results that are drafts without a fault
+-- ---- steps that return a draft, not a fault
 
 abbrev pub taken : PlainDraft → Next
 taken draft = Ok draft

@@ -1,4 +1,4 @@
--- Reading `trust-anchor` blocks. Only the type of a trust anchor is checked.
+-- Reading `trust-anchor` blocks. Of the keys in such a block, only `type` is checked.
 use Rattle.std.specs.Prelude.{ℕ, List, None}
 use Rattle.info_rules.specs.Blocks.{Anchor}
 use Rattle.info_rules.specs.Tree.{Block}

@@ -39,8 +39,8 @@ is_digest (Ok (Some Asymmetric)) = false
 is_digest (Ok None) = false
 is_digest (Err fault) = false
 
--- the kind of the block of a checker; `hierarchical` is true if the checker is hierarchical; the
--- block of a hierarchical checker has no key locator
+-- the kind of a checker's block: `Hierarchical`, which has no key locator, if the argument is true,
+-- otherwise `Customized`
 abbrev pub block_of : Bool → BlockKind
 block_of hierarchical = if hierarchical then blocks.Hierarchical else blocks.Customized
 

@@ -5,8 +5,8 @@ use Rattle.info_rules.specs.declared.fault.RulesFault.{RulesFault}
 use Rattle.info_rules.specs.declared.fault.RulesFaultKind.{RulesFaultKind}
 use Rattle.info_rules.specs.declared.fault.RulesFaultKind.TheVariants.{Syntax, TooDeep, TooLarge, UnknownKey, Missing, BadValue, TwiceNamed, Pattern, AnyAnchor, Memory}
 
--- the rank of a kind; of several faults on the line that is reported, the one whose kind has the
--- least rank is reported
+-- the rank of a kind of fault: if the line that is reported has several faults, the fault whose
+-- kind has the least rank is reported
 abbrev pub kind_number : RulesFaultKind → ℕ
 kind_number Syntax = 1
 kind_number TooDeep = 2

@@ -1,4 +1,4 @@
--- The rules that apply to a packet's name.
+-- The rules that apply to a packet, by its kind and its name.
 use Rattle.std.specs.Prelude.{◌≡◌, ◌⊎◌, ℕ, List, [], take, Some, slice_get, All, Any}
 use Rattle.ndn_tlv.specs.Element.{Field}
 use Rattle.name_patterns.specs.Match.{Match}

@@ -38,9 +38,10 @@ half_with template_word keys pattern =
     shown (λ half. option_zip half.0 half.1) (both pattern (value_in Pattern
     (λ text. ok_of (template_in (groups_of pattern) text)) template_word keys))
 
--- A pattern, and a template that uses the groups of this pattern, or the fault that is reported.
+-- A pattern, and a template that uses only groups of this pattern, or the fault that is reported.
 -- The pattern is read from the first key that is `pattern_word`, and the template from the first
--- key that is `template_word`. The result is `None` if one of these two keys is absent.
+-- key that is `template_word`. If there is no fault, but one of these two keys is absent, the
+-- result is `None`.
 unfoldable pub half_in : List ℕ → List ℕ → List Block → Found Half
 half_in pattern_word template_word keys = half_with template_word keys
     (value_in Pattern (λ text. ok_of (pattern_in text)) pattern_word keys)
@@ -74,14 +75,15 @@ parts_in keys = both
     (value_in BadValue relation_in (codes "h-relation") keys))
     (half_in (codes "p-regex") (codes "p-expand") keys)
 
--- The hyper-relation of a block, or the fault that is reported. If `needed` is true, all keys of
--- the block must be present. `needed` is false if the key locator also has a key of another form.
+-- The hyper-relation of a block, or the fault that is reported. If `needed` is true, all five keys
+-- must be present. `needed` is false if the key locator also has a key of another form.
 unfoldable pub hyper_of : Bool → ℕ → List Block → Found (Option PlainHyper)
 hyper_of needed line keys = beside (after None (walk_faults blocks.Hyper keys))
     (beside (missing_unless (not needed || is_whole keys) line)
     (then_made hyper_made (parts_in keys)))
 
--- the hyper-relation that a key `hyper-relation` states, `None` if a part of the hyper-relation is
--- absent, or the fault that is reported
+-- The hyper-relation that a key `hyper-relation` states, or the fault that is reported. If there is
+-- no fault, but a part of the hyper-relation is absent, the result is `None`. This is possible only
+-- if the first argument is false.
 unfoldable pub hyper_in : Bool → Block → Found (Option PlainHyper)
 hyper_in needed key = block_in 4 (hyper_of needed) key

@@ -36,7 +36,7 @@ abbrev pub seen_data : List ℕ → PlainData → SeenPacket
 seen_data whole d =
     record { kind = kinds.Data; name = d.name; signature = Some d.signature; frame = AData whole d }
 
--- a signed Interest must have a SignatureTime; a Data need not
+-- the signature of an Interest must have a SignatureTime; the signature of a Data need not have one
 abbrev pub SaysWhen : Kind → PlainSignature → Type 0
 SaysWhen kinds.Interest signature = IsSome signature.info.time
 SaysWhen kinds.Data signature = ⊤

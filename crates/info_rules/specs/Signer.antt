@@ -16,7 +16,8 @@ abbrev pub NamesSigner : List NamedKey → PlainSignature → Type 0
 NamesSigner keys signature =
     (signature.info.kind ≡ 0) ⊎ ((signature.info.kind ≡ 4) × NamesKey keys signature)
 
--- the signature of the packet states its signer, and an Interest also has a SignatureTime
+-- the packet is an Interest or a Data, and its signature is as `NamesSigner` states; an Interest
+-- also has a SignatureTime
 abbrev pub NamesItsSigner : List NamedKey → PlainFrame → Type 0
 NamesItsSigner keys (AnInterest whole i) =
     (signature : PlainSignature) × (i.signature ≡ Some signature) × IsSome signature.info.time

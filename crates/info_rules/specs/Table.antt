@@ -39,8 +39,8 @@ table blocks.Hyper =
     ∷ form (codes "h-relation") (Value Relation) Once ∷ form (codes "p-regex") (Value Pattern) Once
     ∷ form (codes "p-expand") (Value Template) Once ∷ []
 
--- the block allows no keys except those in the table; a trust anchor allows other keys, which are
--- not checked
+-- the block allows no keys except those in the table; only a trust anchor also allows other keys,
+-- which are not checked
 abbrev pub is_closed : BlockKind → Bool
 is_closed blocks.File = true
 is_closed blocks.Anchor = false

@@ -19,7 +19,7 @@ None >>= f = None
 (Some x) >>= f = f x
 
 -- the text is a valid value of this kind; every text counts as a valid pattern or template here,
--- since an invalid pattern or template is not a `BadValue` fault
+-- and `any` as a valid type of a trust anchor, since the faults of these values are not `BadValue`
 unfoldable pub is_value : ValueKind → List ℕ → Bool
 is_value Id text = is_id text
 is_value PacketKind text = is_some (kind_in text)

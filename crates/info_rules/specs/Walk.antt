@@ -1,6 +1,7 @@
--- The faults of the keys of a block, according to the table: keys that are not in the table, and
--- keys that are given too many times. For each word, the value of the first key with this word is
--- not checked here, but by the reader of the block.
+-- The faults of the keys of a block, according to the table: keys that are not in the table
+-- (allowed only in a trust anchor), and keys that are given too many times. A value is checked here
+-- only if its key repeats a key that the block allows once. The reader of the block checks the
+-- value of the first such key.
 use Rattle.std.specs.Prelude.{List, [], ◌∷◌, ◌++◌, false, if◌then◌else◌}
 use Rattle.std.specs.List.{flat_map, list_any}
 use Rattle.info_rules.specs.declared.fault.RulesFault.{RulesFault}

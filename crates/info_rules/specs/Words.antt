@@ -20,7 +20,7 @@ is_alone sign [] = false
 is_alone sign (o ∷ []) = o == sign
 is_alone sign (o ∷ (other ∷ word)) = false
 
--- the token of an unquoted word: a brace or a word
+-- the token of an unquoted word: `Open` or `Close` if the word is a single brace, otherwise `Word`
 unfoldable pub word_token : List ℕ → Token
 word_token word =
     if is_alone 123 word then Open else (if is_alone 125 word then Close else Word word)
@@ -106,8 +106,8 @@ end_line text = 1 + count_by (λ o. o == 10) text
 abbrev pub is_escaped : ℕ → Bool
 is_escaped o = (o == 92) || (o == 34)
 
--- the word with each pair of backslashes replaced by one backslash, and each pair of a backslash
--- and a quote replaced by the quote
+-- the word, read from left to right, with each pair of backslashes replaced by one backslash, and
+-- each pair of a backslash and a quote replaced by the quote
 unfoldable pub unescaped : List ℕ → List ℕ
 unescaped [] = []
 unescaped (o ∷ []) = o ∷ []

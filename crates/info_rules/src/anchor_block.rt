@@ -1,4 +1,4 @@
-//! Reads `trust-anchor` blocks. Only the type of a trust anchor is checked.
+//! Reads `trust-anchor` blocks. Of the keys in such a block, only `type` is checked.
 
 ghost use Rattle.info_rules.specs.AnchorBlock.{anchor_of};
 

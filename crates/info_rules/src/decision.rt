@@ -21,9 +21,9 @@ use ndn_tlv::Memory;
 use std::alloc::Global;
 use thiserror::Error;
 
-/// Why a packet is denied. If several checkers have different reasons, the one of their reasons
-/// that comes last in this list is reported. The error message of a reason states what was wrong,
-/// and what the signer or the operator can do.
+/// Why a packet is denied. If the checkers of a rule have different reasons, the reason that comes
+/// last in this list is reported. The error message of a reason states what was wrong, and what the
+/// signer or the operator can do.
 #[derive(Clone, Copy, Debug, PartialEq, Eq, Error)]
 pub enum Reason {
     /// The Interest is not signed.
@@ -46,8 +46,8 @@ pub enum Reason {
     /// The signature value is not the tag of the covered octets.
     #[error("Tag: the octets were changed, or the two sides have different keys; compare the keys")]
     Tag,
-    /// A signed Interest is not newer than the earlier allowed Interests of its signer, or its
-    /// SignatureTime is too far from the present time. Only callers give this reason; the rules
+    /// A signed Interest is not newer than one of the earlier allowed Interests of its signer, or
+    /// its SignatureTime is too far from the present time. Only callers give this reason; the rules
     /// never do.
     #[error("Replay: not newer than an allowed command, or the clocks differ; sign it again now")]
     Replay,

@@ -27,12 +27,13 @@ pub enum RulesFaultKind {
     /// A block without a key that it needs.
     #[error("Missing: this block lacks a key that it needs")]
     Missing,
-    /// A key whose value is missing or invalid, or a key without the block that it needs. A key
+    /// A key whose value is missing or invalid, except an invalid pattern or template (`Pattern`)
+    /// and a trust anchor of type `any` (`AnyAnchor`). A key without the block that it needs. A key
     /// with a value or a block that it cannot have. A key of a second form in a filter or a key
     /// locator. There are three forms: `name` and `relation`; `regex`; `hyper-relation`.
     #[error("BadValue: wrong or missing value or block, or a key that cannot stand with the others")]
     BadValue,
-    /// A key is given twice in a block that allows it once, or two rules have the same id.
+    /// A key is given more than once in a block that allows it once, or two rules have the same id.
     #[error("TwiceNamed: this key or id was given before")]
     TwiceNamed,
     /// A pattern or a template that is not valid.

@@ -21,7 +21,7 @@ use std::alloc::Global;
 /// The greatest number of groups in a pattern.
 const MAX_GROUPS: u8 = 9;
 
-/// A pattern, and a template that uses the groups of this pattern, if both are present.
+/// A pattern, and a template that uses only groups of this pattern, if both are present.
 type Half = Option<(Pattern, Template)>;
 
 /// Returns the number of groups in the pattern, or the greatest possible number if no pattern was
@@ -43,9 +43,9 @@ fn zipped<A: Drop, B: Drop>(parts: Found<(Option<A>, Option<B>)>) -> Found<Optio
     Ok(first.zip(second))
 }
 
-/// Reads a pattern from the first key that is `pattern_word`. Reads a template, which uses the
-/// groups of this pattern, from the first key that is `template_word`. Returns `None` if one of
-/// these two keys is absent.
+/// Reads a pattern from the first key that is `pattern_word`. Reads a template, which may use only
+/// groups of this pattern, from the first key that is `template_word`. If there is no fault, but
+/// one of these two keys is absent, returns `None`.
 #[tactic(auto, unfolding(crate::specs::HyperBlock::half_in))]
 fn read_half(alloc: Global, keys: Keys<'_>, pattern_word: &str, template_word: &str) -> Read<Half>
     ensures read { IfOk result
@@ -69,7 +69,7 @@ fn is_whole(keys: Keys<'_>) -> bool
         && keys.has("p-expand")
 }
 
-/// Makes a hyper-relation from its parts. Returns `None` if a part is absent.
+/// Makes a hyper-relation from its three parts. Returns `None` if one of them is absent.
 fn hyper_with(key: Half, relation: Option<Relation>, packet: Half) -> Option<HyperRelation>
     requires key { spec.HasGroups key }
     requires packet { spec.HasGroups packet }
@@ -99,7 +99,8 @@ fn made_of(parts: Found<Parts>) -> Found<Option<HyperRelation>>
     Ok(hyper_with(key, relation, packet))
 }
 
-/// Reads the hyper-relation that the keys state. Returns `None` if a part of it is absent.
+/// Reads the hyper-relation that the keys state. Returns `None` if there is no fault, but a part of
+/// it is absent.
 #[tactic(auto, unfolding(crate::specs::HyperBlock::parts_in))]
 fn read_hyper(alloc: Global, keys: Keys<'_>) -> Read<Option<HyperRelation>>
     ensures { IfOk result
@@ -111,7 +112,7 @@ fn read_hyper(alloc: Global, keys: Keys<'_>) -> Read<Option<HyperRelation>>
     Ok(made_of(both(both(key, relation), packet)))
 }
 
-/// A reader of hyper-relations. `needed` is true if all keys of the block must be present.
+/// A reader of hyper-relations. `needed` is true if all five keys must be present.
 #[derive(Drop)]
 pub struct HyperReader {
     pub needed: bool,

@@ -96,8 +96,8 @@ fn made_of(
     template.expand(alloc, captures, name).map_err(|_| Memory)
 }
 
-/// Returns whether the prefix that `prefix_of_key` finds in the key's name is also a prefix of the
-/// packet's name.
+/// Returns whether `prefix_of_key` finds a prefix in the key's name, and this prefix is also a
+/// prefix of the packet's name.
 fn is_hierarchical(key: Name<'_>, packet: Name<'_>) -> bool
     ensures { IsTrue result ↔ IsHierarchical (components key.entry) (components packet.entry) }
 {

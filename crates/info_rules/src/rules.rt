@@ -3,7 +3,7 @@
 use crate::rule::Rule;
 use std::marker::Model;
 
-/// The position of a rule in its file. The first position is 0.
+/// The position of a rule among the rules of its file. The first position is 0.
 #[derive(Clone, Copy, Debug, PartialEq, Eq)]
 pub struct RuleNo(pub usize);
 

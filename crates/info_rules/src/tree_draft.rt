@@ -107,8 +107,9 @@ impl Draft {
         Ok(())
     }
 
-    /// Adds a word: the value of the pending entry if its key is on the same line, otherwise the
-    /// key of a new entry.
+    /// Adds a word. If the key of the pending entry is on the same line, the word is the value of
+    /// that entry; a second value is a syntax fault. Otherwise the word is the key of a new entry;
+    /// a key that follows a closing brace on the same line is a syntax fault.
     fn add_word(&mut self, alloc: Global, line: u32, word: &str) -> Added
         ensures { let next = read.with_word (draft_of self.old) line word.now
             (option_map entry_of self.old.pending) in

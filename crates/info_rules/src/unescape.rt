@@ -22,8 +22,8 @@ fn first_sign(following: &str) -> (&str, &str)
     }
 }
 
-/// Returns the word with each `\\` replaced by one backslash and each `\"` by a quote. Fails only
-/// if memory runs out.
+/// Returns the word, read from left to right, with each `\\` replaced by one backslash and each
+/// `\"` by a quote. Fails only if memory runs out.
 pub fn unescaped(alloc: Global, word: &str) -> Result<String, RulesFault>
     ensures { MatchResult result (λ text. string_bytes text ≡ words.unescaped word.now)
         (λ fault. fault ≡ memory_fault) }

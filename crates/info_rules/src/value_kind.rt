@@ -44,7 +44,8 @@ fn stands_for<V: Value>(alloc: Global, text: &str) -> Result<bool, Memory>
 
 impl ValueKind {
     /// Returns whether the text is a valid value of this kind. Every text counts as a valid pattern
-    /// or template here, since an invalid pattern or template is not a `BadValue` fault.
+    /// or template here, and `any` as a valid type of a trust anchor, since the faults of these
+    /// values are not `BadValue`.
     #[tactic(auto, unfolding(crate::specs::Values::is_value))]
     pub fn is_value(self, alloc: Global, text: &str) -> Result<bool, Memory>
         ensures { IfOk result (λ right. right ≡ is_value (value_kind_of self) text.now) }

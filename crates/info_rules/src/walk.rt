@@ -111,8 +111,9 @@ fn judge_all_times(alloc: Global, forms: &[Form], keys: Keys<'_>, report: &mut R
 }
 
 /// Returns the fault that is reported for those keys of a block that are unknown or are given too
-/// many times, or `None` if there are no such keys. For each word, the value of the first key with
-/// this word is not checked here.
+/// many times, or `None` if there are no such keys. In a trust anchor, unknown keys are allowed. A
+/// value is checked here only if its key repeats a key that the block allows once. The reader of
+/// the block checks the value of the first such key.
 #[tactic(auto, using(crate::proofs::Reports::after_append, crate::proofs::Reports::after_none), unfolding(crate::specs::Walk::walk_faults))]
 pub fn walk(alloc: Global, block: Block, keys: Keys<'_>) -> Result<Report, Memory>
     ensures { IfOk result

@@ -34,7 +34,8 @@ fn is_separator(octet: u8) -> bool
     matches!(octet, b' ' | b'\t' | b'\r' | b'\n' | b';')
 }
 
-/// Returns the token of an unquoted word: a brace or a word.
+/// Returns the token of an unquoted word: `Open` or `Close` if the word is a single brace,
+/// otherwise `Word`.
 #[tactic(auto, unfolding(crate::specs::Words::word_token))]
 fn word_token(word: &str) -> Token<'_>
     ensures { token_of result ≡ words.word_token word.now }
