@@ -140,9 +140,9 @@ module _ (old new : NodeState) (event : PlainEvent) (v : PlainVerdict) (sends : 
   abbrev pub answer : Answer
   answer = record { verdict = v; sends = sends }
 
-  -- if `text` is the text of the journal of a run, then the run extended by the event has a
-  -- journal, and the text of this longer journal is `text` followed by the text that is appended
-  -- for the event
+  -- if the old node agrees (`Stands`) with a run, and `before` is the text `text` of this run's
+  -- journal, then the run extended by the event has a journal, and the text of this longer journal
+  -- is `text` followed by the text that is appended for the event
   grows : (text : List ℕ) → before ≡ Some text → (is_journalled_entry coming.entry coming.is_wanted v ≡ true → IsLineAt time coming.entry) → (first : Policy) (past : Run) (journal : List PlainEvent) → Stands first past old
       → IsJournalOf first past journal → IsTextOf journal text
       → (longer : List PlainEvent) × IsJournalOf first (Then past event answer) longer

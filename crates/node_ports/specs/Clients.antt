@@ -10,7 +10,7 @@ use Rattle.node_ports.specs.Endpoints.{is_at}
 pub record ClientsState : Type 0 where
   -- the clients in the order of their faces
   pub rows : List Client
-  -- the idle time after which a face closes, or None if no face closes
+  -- the idle time after which a client's face closes, or None if no client's face closes
   pub idle : Option ℕ
 
 -- the last datagram from the client arrived at least `time` milliseconds before `now`

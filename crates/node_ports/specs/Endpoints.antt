@@ -1,5 +1,5 @@
 -- Endpoints of datagrams: an IPv4 or IPv6 address with a port. An endpoint with an IPv6 address
--- also has a flow label and a scope. The scope is the link of a link-local address.
+-- also has a flow label and a scope. The scope is the number of the link of a link-local address.
 use Rattle.std.specs.Prelude.{◌≡◌, ℕ, ◌∷◌, [], Bool, List, length, slice_get, Some}
 use Rattle.std.specs.Net.Addr.{IsV4And, ipv4_octets}
 use Rattle.std.specs.Net.Socket.{socket_ip, socket_port}

@@ -12,9 +12,9 @@ plain_arrival (owned.Tick now) = Tick now
 plain_arrival (owned.NewRules renewal now) = NewRules renewal.rules renewal.keys now
 
 -- The events that have not yet arrived, the packets that were accepted, and the number of failed
--- calls. `next_told` is the number of the call of `next` that is told to fail, and `send_told` is
--- the number of the call of `send` that is told to fail. The first call from now on has the number
--- 1. The number 0 means that no call is told to fail.
+-- calls of `next` and `send`. `next_told` is the number of the call of `next` that is told to fail,
+-- and `send_told` is the number of the call of `send` that is told to fail. The first call from now
+-- on has the number 1. The number 0 means that no call is told to fail.
 pub record MemoryState : Type 0 where
   pub events : List PlainEvent
   pub sent : List Send

@@ -102,7 +102,8 @@ pub record Handles (old new : NodeState) (before after : Shown) (done_as : Outco
   pub failures : after.failures ≡ count_after before.failures failed
 
 -- If the old node agrees (`Stands`) with a run, and `before` is the text of this run's journal,
--- then `after` is `before`, possibly followed by a prefix of this event's line.
+-- then `after` is `before`, followed by nothing or by a prefix of this event's line, which may be
+-- the whole line.
 abbrev pub HasFront : NodeState → Option (List ℕ) → PlainEvent → Answer → Option (List ℕ) → Type 0
 HasFront old before event answer after =
     (first : Policy) (past : Run) (journal : List PlainEvent) (text : List ℕ)
@@ -113,8 +114,9 @@ HasFront old before event answer after =
     × IsJournalOf first (Then past event answer) longer
     × IsTextOf longer (text ++ (front ++ back)) × (after ≡ Some (text ++ front)))
 
--- An event arrived and was answered, but it could not be journalled: at most a prefix of the
--- event's line was appended to the journal. None of the event's packets was sent.
+-- An event arrived and was answered, but it could not be journalled: nothing, or a prefix of the
+-- event's line, which may be the whole line, was appended to the journal. None of the event's
+-- packets was sent.
 pub record FailsToWrite (old new : NodeState) (before after : Shown) : Type 0 where
   pub event : PlainEvent
   pub answer : Answer

@@ -35,9 +35,10 @@ pub record UdpState : Type 0 where
   pub told : ℕ
   -- whether datagrams from endpoints that are not peers are accepted
   pub accepts_strangers : Bool
-  -- the number of datagrams that were dropped because their endpoints are not peers
+  -- the number of datagrams that were dropped because their endpoints are not peers, at most the
+  -- greatest u64
   pub strangers : ℕ
-  -- the number of failed calls
+  -- the number of failed calls of `next` and `send`, at most the greatest u64
   pub failures : ℕ
 
 -- the state of the ports before the first arrival, if faces do not close and datagrams from
@@ -177,8 +178,8 @@ GivesReceived before after buffer arrival =
     × DropsStrangers before mid × IsAccepted mid endpoint
     × Brings mid after endpoint (take len buffer) buffer arrival)
 
--- Every peer's face was opened, no datagram waited, and receiving failed. Datagrams from endpoints
--- that are not accepted may have been dropped before.
+-- Every peer's face was opened, no datagram waited, and receiving failed. The failure was counted.
+-- Datagrams from endpoints that are not accepted may have been dropped before.
 abbrev pub FailsReceiving : UdpState → UdpState → Type 0
 FailsReceiving before after =
     Listens before × ((mid : UdpState) × DropsStrangers before mid

@@ -292,7 +292,8 @@ fn first_end(clients: &[Client], time: u64) -> u64
 }
 
 /// Returns the index of the client that has been silent longest. If several clients have been
-/// silent for the same longest time, returns the index of the first of these clients.
+/// silent for the same longest time, returns the index of the first of these clients. Precondition:
+/// there is at least one client.
 fn silent_longest(clients: &[Client]) -> usize
     requires { 0 < length clients.now }
     ensures within { result < length clients.now }

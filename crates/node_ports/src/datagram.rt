@@ -30,9 +30,9 @@ pub fn send_from(rt: &impl Net, from: u16, to: u16, octets: &[u8]) -> Result<Udp
     }
 }
 
-/// Receives one datagram and returns the number of octets in the buffer. A datagram longer than the
-/// buffer is truncated. Fails if no datagram arrives within `ANSWER_SECONDS` seconds, if this time
-/// limit cannot be set, or if the socket fails.
+/// Receives one datagram into the start of the buffer, and returns the number of octets that were
+/// stored. A datagram longer than the buffer is truncated. Fails if no datagram arrives within
+/// `ANSWER_SECONDS` seconds, if this time limit cannot be set, or if the socket fails.
 pub fn receive_one(socket: &UdpSocket, buffer: &mut [u8]) -> Result<usize, PortFault>
     ensures { IfOk result (λ len. len ≤ length buffer.new) }
 {

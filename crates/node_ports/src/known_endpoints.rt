@@ -14,9 +14,9 @@ use std::net::SocketAddr;
 pub enum Met {
     /// The endpoint has the face with this number, and the datagram arrives on this face.
     Face(u64),
-    /// The endpoint has no face. A face with this number is opened for the endpoint, and the
-    /// datagram arrives on that face. If 64 endpoints are already known, the endpoint is not
-    /// stored, and a node with 64 faces does not open the face.
+    /// The endpoint has no face. An arrival opens a face with this number for the endpoint, and
+    /// then the datagram arrives on this face. If 64 endpoints are already known, the endpoint is
+    /// not stored, and a node with 64 faces does not open the face.
     Opening(u64),
     /// The face with this number must close before the datagram is handled.
     Closing(u64),
@@ -121,7 +121,8 @@ impl KnownEndpoints {
         let _face = self.clients.hear(endpoint, now);
     }
 
-    /// Opens the next face for an endpoint without a face, and returns the number of the face.
+    /// Stores an endpoint without a face as a client with the next face number, and returns this
+    /// number. Precondition: fewer than 64 endpoints are known.
     fn open(&mut self, endpoint: SocketAddr, now: u64) -> u64
         requires { length self.old.peers + length self.old.clients.rows < MAX_FACES }
         ensures { OpensNew self.old self.new endpoint now result }

@@ -15,7 +15,7 @@ use std::marker::Model;
 use std::net::{Ipv4Addr, Net, SocketAddr, SocketAddrV4, UdpSocket};
 use std::time::Duration;
 
-/// How long `UdpPorts::next_soon` waits for a datagram, in milliseconds.
+/// The limit on the time that `UdpPorts::next_soon` waits for a datagram, in milliseconds.
 pub const SOON_MILLISECONDS: u64 = 1;
 
 /// A clock.
@@ -39,8 +39,9 @@ pub trait Moments: Drop {
 /// number of an opened face is never used for another face, unless it is the greatest u64. The
 /// ports never return `End`.
 ///
-/// After a call of `close_after`, the faces of idle clients close. A peer's face never closes.
-/// After a call of `ignore_strangers`, only datagrams from peers are accepted.
+/// After a call of `close_after`, the faces of idle clients close, and the face of a client may
+/// close to make room for an unknown endpoint. A peer's face never closes. After a call of
+/// `ignore_strangers`, only datagrams from peers are accepted.
 #[derive(Drop)]
 pub struct UdpPorts<M: Moments> {
     socket: UdpSocket,
@@ -239,8 +240,9 @@ impl<M: Moments> UdpPorts<M> {
         self.moments.now()
     }
 
-    /// Returns the arrival of the waiting datagram on the face `face`. Copies the datagram to the
-    /// start of the buffer. Octets that do not fit are dropped.
+    /// Returns the arrival of the waiting datagram on the face `face`. If the endpoint is a client,
+    /// sets the time of its last datagram to the present time. Copies the datagram to the start of
+    /// the buffer. Octets that do not fit are dropped.
     fn give_waiting(&mut self, endpoint: SocketAddr, face: u64, buffer: &mut [u8]) -> Arrival
         requires opened { HasOpened self.old }
         requires waiting { (octets : List ℕ) × (self.old.waiting
@@ -478,7 +480,7 @@ impl<M: Moments> Ports for UdpPorts<M> {
     }
 }
 
-/// Returns the arrival that opens a Far face, which is for an endpoint that is not a peer.
+/// Returns the arrival that opens a Far face for an endpoint that is not a peer.
 fn far_face(face: u64, now: u64) -> Arrival
     ensures { result ≡ Arrival.FaceUp face Scope.Far now }
 {
