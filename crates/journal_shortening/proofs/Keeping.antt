@@ -21,8 +21,8 @@ Done flags journal old text =
 pub so_far_none : (flags : List Bool) (journal old : List ℕ) → SoFar flags journal old 0 journal old
 so_far_none flags journal old more h = (more, h, refl)
 
--- if the next line is appended when its flag is true, and left out when its flag is false, the loop
--- invariant still holds
+-- if the loop invariant holds, and the next line is appended when its flag is true and left out
+-- when its flag is false, then the loop invariant still holds
 pub so_far_line : (flags : List Bool) (journal old : List ℕ) (i : ℕ) (rest text line after new : List ℕ) (flag : Bool)
     → SoFar flags journal old i rest text → i < length flags → get_or flags i false ≡ flag
     → rest ≡ line ++ (10 ∷ after) → Lacks 10 line → new ≡ text ++ kept_line flag line
@@ -35,7 +35,7 @@ so_far_line flags journal old i rest text line after new flag s lt f r lacks n m
     let all = s (kept_line flag line ++ more) (subst (λ (fs : List Bool). KeepsLines fs rest (kept_line flag line ++ more)) (sym cons) here) in
     (all.0, all.1, ap (λ (t : List ℕ). t ++ more) n ∙ append_assoc text (kept_line flag line) more ∙ all.2)
 
--- if `rest` has no whole line, then `Done` is true
+-- if the loop invariant holds, and `rest` has no whole line, then `Done` is true
 pub done_early : (flags : List Bool) (journal old : List ℕ) (i : ℕ) (rest text : List ℕ)
     → SoFar flags journal old i rest text → i < length flags → Lacks 10 rest
     → Done flags journal old text
@@ -45,7 +45,7 @@ done_early flags journal old i rest text s lt lacks =
     let all = s [] (subst (λ (fs : List Bool). KeepsLines fs rest []) (sym cons) here) in
     (all.0, all.1, sym (append-nil text) ∙ all.2)
 
--- if no flag remains, then `Done` is true
+-- if the loop invariant holds, and no flag remains, then `Done` is true
 pub done : (flags : List Bool) (journal old : List ℕ) (i : ℕ) (rest text : List ℕ)
     → SoFar flags journal old i rest text → i ≡ length flags → Done flags journal old text
 done flags journal old i rest text s e =

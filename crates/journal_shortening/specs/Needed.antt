@@ -15,8 +15,9 @@ kept_line true line = ended line
 kept_line false line = []
 
 -- `kept` consists of those lines of `text` that have a flag `true`, in order and each with its LF.
--- The first flag belongs to the first line, the second flag to the second line, and so on. Lines
--- without a flag are left out. Octets after the last LF are left out.
+-- The first flag belongs to the first line, the second flag to the second line, and so on. If there
+-- are fewer flags than lines, the lines without a flag are left out. Octets after the last LF are
+-- left out.
 abbrev pub KeepsLines : List Bool → List ℕ → List ℕ → Type 0
 KeepsLines [] text kept = kept ≡ []
 KeepsLines (flag ∷ flags) text kept =

@@ -78,8 +78,8 @@ fn put_tick(text: &mut Vec<u8>, moment: u64) -> Result<(), Memory>
 }
 
 /// Appends the needed lines of a journal, each with its LF. The first flag in `needed` belongs to
-/// the first line, the second flag to the second line, and so on. Lines without a flag are left
-/// out.
+/// the first line, the second flag to the second line, and so on. If there are fewer flags than
+/// lines, the lines without a flag are left out.
 fn put_lines(text: &mut Vec<u8>, journal: &[u8], needed: &[bool]) -> Result<(), Memory>
     ensures { OnOk result ((lines : List ℕ) × KeepsLines needed.now journal.now lines
         × (text.new.items ≡ text.old.items ++ lines)) }

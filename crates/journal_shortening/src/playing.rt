@@ -15,7 +15,7 @@ pub enum Change {
     Down(u64),
     /// Rules and keys were replaced.
     Rules,
-    /// A command that arrived on this face was allowed, and has this status.
+    /// A command that arrived on this face was allowed, and was answered with this status.
     Command(u64, u16),
     /// A Data that arrived on this face was stored in the repository.
     Stored(u64),
@@ -50,7 +50,8 @@ impl Desk {
 }
 
 /// Returns what an event changes if it takes effect. Returns `Stored` for every packet, because
-/// only the verdict tells whether the packet is a command and which status the command has.
+/// only the verdict tells whether the packet is a command, and with which status the command was
+/// answered.
 fn change_of(event: &OwnedEvent) -> Change {
     match event {
         OwnedEvent::Packet { face, .. } => Change::Stored(*face),

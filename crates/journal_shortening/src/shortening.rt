@@ -70,8 +70,9 @@ fn restores_same(
 // Each of the next three functions makes a node, lends it to one call, and returns the result of
 // this call, so that the node is dropped in only one place.
 
-/// Returns which lines of a journal are needed to restore, on an empty node, the tables that the
-/// whole journal restores.
+/// Returns which lines of a journal, according to a survey, are needed to restore, on an empty
+/// node, the tables that the whole journal restores, and the node's time after the replay
+/// (`needed_lines`).
 fn needed_of(alloc: Global, repo: &NameBuf, journal: &[u8]) -> Result<Needed, ShortenFault> {
     let mut node = empty_node(alloc, repo)?;
     needed_lines(alloc, &mut node, journal)

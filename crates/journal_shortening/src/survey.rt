@@ -40,7 +40,8 @@ pub struct Survey {
     pub rules: Option<u32>,
     /// For each open face, the line that opened the face.
     pub ups: BTreeMap<u64, u32>,
-    /// For the key of each subject, the last line that set or removed the subject.
+    /// For the key of each subject, the last line that set or removed the subject, and what this
+    /// line did.
     pub writers: BTreeMap<Vec<u8>, Writer>,
     /// The wants (pending inserts) that no line has ended. Some of these wants may have expired.
     pub wants: Vec<Want>,
@@ -146,7 +147,7 @@ impl Survey {
         self.link_face(at.line, at.face)
     }
 
-    /// Notes an allowed command with this status.
+    /// Notes an allowed command that was answered with this status.
     fn note_command(&mut self, at: Place, status: u16, octets: &[u8]) -> Result<(), Memory> {
         self.link_packet(at)?;
         if status == TABLE_FULL {
@@ -158,7 +159,7 @@ impl Survey {
         }
     }
 
-    /// Notes the signer of a command, and what the command did.
+    /// Notes the signer of a command, if the command is signed, and what the command did.
     fn note_interest(
         &mut self,
         at: Place,

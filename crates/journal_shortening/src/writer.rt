@@ -10,8 +10,9 @@ pub enum Effect {
     /// since the next line may remove or change the subject.
     Set,
     /// The line set a next hop or a route through `face`, which the line with the number `up`
-    /// opened. The next hop or route ends when the face closes, or at `deadline`, in milliseconds
-    /// since 1970. As for `Set`, if the line is needed, the next line on the subject is needed too.
+    /// opened. The next hop or route ends when the face closes, or at `deadline` (in milliseconds
+    /// since 1970), if there is a deadline. As for `Set`, if the line is needed, the next line on
+    /// the subject is needed too.
     Routed {
         face: u64,
         up: u32,
