@@ -42,9 +42,9 @@ Writes-cut a b c text gathered h k = subst (AppendsFront a c) (sym h.1) (Appends
 pub AppendsFront-longer : (a b : Option (List ℕ)) (text more : List ℕ) → AppendsFront a b text → AppendsFront a b (text ++ more)
 AppendsFront-longer a b text more h = (h.0, h.1 ++ more, ap (λ (l : List ℕ). l ++ more) h.2 ∙ append_assoc h.0 h.1 more, h.3)
 
--- Let `number` turns be taken, and let `gathered` be the part of their text that is not yet
--- written. If the turn after the first `number` turns stops with the fault `why` (`StopsTurn`),
--- then the sequence of turns stops with `why` (`StopsTurns`).
+-- Let `number` turns be taken, where `number` is less than `turns`, and let `gathered` be the part
+-- of their text that is not yet written. If the turn after the first `number` turns stops with the
+-- fault `why` (`StopsTurn`), then the sequence of turns stops with `why` (`StopsTurns`).
 pub stops_turns : (old mid new : NodeState) (before between after : Shown) (turns number : ℕ) (a b c : Option (List ℕ)) (text gathered : List ℕ) (why : Fault)
     → Tells old mid before between number text → Writes a b text gathered → number < turns → StopsTurn mid new between after b c gathered why → StopsTurns old new before after turns a c why
 stops_turns old mid new before between after turns number a b c text gathered Unreceived told writes less h = (
@@ -76,7 +76,8 @@ pub cut_then : {A : Type 0} (P : Fault → Type 0) (r : Result (Unit {0}) Fault)
 cut_then P (Ok done) h is then = tt
 cut_then P (Err why) h is then = subst P (sym is) (then h)
 
--- a prefix of the text was written, whether or not the write succeeded
+-- if a success of `r` implies that the text was written, and a fault implies that a prefix was
+-- written, then a prefix was written in both cases
 pub front_of_writing : (r : Result (Unit {0}) Fault) (a b : Option (List ℕ)) (text : List ℕ) → OnOk r (Appends a b text) → OnErr r (AppendsFront a b text) → AppendsFront a b text
 front_of_writing (Ok done) a b text all cut = (text, [], sym (append-nil text), all)
 front_of_writing (Err why) a b text all cut = cut

@@ -68,7 +68,8 @@ pub same_local : (texts : List (List ℕ)) (a b held : List SocketAddr) (d : Soc
 same_local texts a b held d first second holds text local h = subst (λ ps. IsLocal text ps local) (same_endpoints d texts a b first second ∙ sym holds) h
 
 module _ (texts : List (List ℕ)) (i : ℕ) (text : List ℕ) (is : (d : List ℕ) → slice_index_or texts i d ≡ text) (inside : i < length texts) where
-  -- if all texts spell endpoints, then the text `text` at index `i` spells an endpoint
+  -- if the texts spell a valid list of endpoints, then the text `text` at index `i` spells an
+  -- endpoint
   pub endpoint_at : (endpoints : List SocketAddr) → AreEndpoints texts endpoints → (e : SocketAddr) × IsEndpoint text e
   endpoint_at endpoints are = let d = some_item endpoints (omega (arith, are.many, inside)) in (slice_index_or endpoints i d, subst (λ t. IsEndpoint t (slice_index_or endpoints i d)) (is []) (spelled_at texts endpoints are i d inside))
 

@@ -51,8 +51,9 @@ Tells-more old mid new before between after number more text done_as h k =
           ∙ sym (ap (λ (es : List PlainEvent). script_text rules es s.0.outcomes) s.1 ∙ ap (script_text rules (h.serves.arrivals ++ (k.event ∷ []))) s.2);
     }
 
--- if `text` is the text of the first `number` events, and one more turn brings an event, then
--- `text` followed by the text of this turn is the text of the first `number + 1` events
+-- if `text` is the text of the first `number` events, and one more turn is neither `End` nor
+-- `Unwritten`, then `text` followed by the text of this turn is the text of the first `number + 1`
+-- events
 pub Tells-turn : (old mid new : NodeState) (before between after : Shown) (number : ℕ) (text : List ℕ) (sends : List Send) (rules : List PlainRule) (turn : Turn) → (turn ≡ End → ⊥) → (turn ≡ Unwritten → ⊥)
     → Tells old mid before between number text → IsTurn mid new between after sends turn → rules ≡ new.policy.rules
     → Tells old new before after (number + 1) (text ++ turn_text (number + 1) rules turn sends)

@@ -16,8 +16,9 @@ is_left_out shows_all came outcome = not shows_all && is_plain came outcome
 abbrev pub MayLog : List ℕ → List ℕ → ℕ → List ℕ → Type 0
 MayLog old new moment words = IsLogged old new moment words ⊎ (new ≡ old)
 
--- The number, after this event, of closed faces that the log has not yet reported. `count` is this
--- number before the event. If `left_out` is true, the log leaves out the event.
+-- The number, after this event, of closed faces whose closing the log left out and has not yet
+-- reported. `count` is this number before the event. If `left_out` is true, the log leaves out the
+-- event.
 abbrev pub closed_with : Bool → Came → ℕ → ℕ
 closed_with true (Closed face) count = one_more count
 closed_with left_out came count = count

@@ -20,7 +20,7 @@ abbrev pub IsKeyFault : List ℕ → Fault → Type 0
 IsKeyFault octets (Keys why) = IsFaultOfOctets octets why
 IsKeyFault octets why = ⊥
 
--- ---- files
+-- ---- the results of reading the file at a path
 
 -- the fault is that the file of this kind at this path cannot be read, or that memory ran out
 abbrev pub IsUnread : List ℕ → List ℕ → Fault → Type 0

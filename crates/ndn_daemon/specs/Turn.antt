@@ -103,14 +103,15 @@ abbrev pub fault_of : ServeFault → Fault
 fault_of (serve.Next events) = Unreceived
 fault_of (serve.Journal events) = Journal journal.Unwritten
 
--- the node stopped with the fault `why` after zero or more events: the call for the next arrival
--- failed, or the event that arrived could not be journalled
+-- the node stopped with the fault `why` after zero or more events, but fewer than `turns` events:
+-- the call for the next arrival failed, or the event that arrived could not be journalled
 abbrev pub StopsQuietTurns : NodeState → NodeState → Shown → Shown → ℕ → Fault → Type 0
 StopsQuietTurns old new before after turns why =
     (stop : ServeFault) × StopsServing old new before after turns stop × (why ≡ fault_of stop)
 
--- why a node on a bound port stops with a fault: no datagram can be received, an answer cannot be
--- written, memory for printing an answer ran out, or an event could not be journalled
+-- why a node that takes its turns on a bound port stops with a fault: no datagram can be received,
+-- an answer cannot be written, memory for printing an answer ran out, or an event could not be
+-- journalled
 abbrev pub EndsTurns : Fault → Type 0
 EndsTurns Unreceived = ⊤
 EndsTurns (Script Write) = ⊤

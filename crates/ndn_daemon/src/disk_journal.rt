@@ -187,8 +187,9 @@ fn folder_of(path: &str) -> &str {
     }
 }
 
-/// Locks the file. Fails if another program holds the lock, or if the path no longer leads to the
-/// file. Another program may have replaced the file at the path before this file was locked.
+/// Locks the file. Fails if the file cannot be locked, for example because another program holds
+/// the lock, or if the path no longer leads to the file. Another program may have replaced the file
+/// at the path before this file was locked.
 fn locked<'a, R: AllocGlobal + Files<File = File>>(
     rt: &R,
     path: &'a str,

@@ -13,7 +13,8 @@ use node_core::Verdict;
 use std::alloc::Global;
 use std::net::SocketAddr;
 
-/// When the buffered lines have at least this many octets together, they are written.
+/// When the buffered lines have at least this many octets together after an event, they are
+/// written.
 const MOST_GATHERED: usize = 65_536;
 
 /// When the first buffered line is at least this old, in milliseconds, the next event causes all
@@ -71,7 +72,7 @@ pub struct EventLog<S: LogSink> {
     later: Vec<u8>,
     // The time of the first line that is not yet written.
     since: u64,
-    // The number of closed faces that are not yet reported.
+    // The number of closed faces whose closing was left out of the log and is not yet reported.
     closed: u64,
     // The total number of datagrams that were dropped because their endpoints are not peers, as
     // last reported.
@@ -174,9 +175,9 @@ impl<S: LogSink> EventLog<S> {
         self.later.clear();
     }
 
-    /// Calls `put_counts_now` if the time of the last report of a count is at least a minute away
-    /// from `moment`. `strangers` is the total number of datagrams that were dropped because their
-    /// endpoints are not peers.
+    /// Calls `put_counts_now` if the time of the last report of a count (0 if there is none) is at
+    /// least a minute away from `moment`. `strangers` is the total number of datagrams that were
+    /// dropped because their endpoints are not peers.
     pub fn put_counts(&mut self, moment: u64, strangers: u64)
         ensures others { self.new ≡ record self.old {
           text = self.new.text;
@@ -190,10 +191,11 @@ impl<S: LogSink> EventLog<S> {
         }
     }
 
-    /// Appends a line with the number of closed faces, and a line with the number of datagrams that
-    /// were dropped because their endpoints are not peers. Both lines count only what is not yet
-    /// reported, and a line with the number 0 is left out. `strangers` is the total number of these
-    /// datagrams, including the datagrams that are already reported.
+    /// Appends a line with the number of closed faces whose closing was left out of the log, and a
+    /// line with the number of datagrams that were dropped because their endpoints are not peers.
+    /// Both lines count only what is not yet reported, and a line with the number 0 is left out.
+    /// `strangers` is the total number of these datagrams, including the datagrams that are already
+    /// reported.
     pub fn put_counts_now(&mut self, moment: u64, strangers: u64)
         ensures others { self.new ≡ record self.old {
           text = self.new.text;

@@ -60,8 +60,8 @@ enum Seen {
 pub struct LoggedPorts<P: Ports + HasEndpoints + Drop, S: LogSink> {
     ports: P,
     log: EventLog<S>,
-    // `seen` holds the last arrival until the outcome of this arrival is logged. `moment` is the
-    // time of the last arrival.
+    // `seen` holds the last arrival, unless it is `End`, until `note` is called for it. `moment` is
+    // the time of the last arrival that is not `End`, or 0 before the first arrival.
     seen: Option<Seen>,
     moment: u64,
     // `opened` is the face of the last `FaceUp` arrival, and `endpoint` is the endpoint of that
@@ -117,7 +117,8 @@ impl<P: Ports + HasEndpoints + Drop, S: LogSink> LoggedPorts<P, S> {
         }
     }
 
-    /// Logs the outcome of an arrival. `octets` begins with the arrival's octets.
+    /// Logs the outcome of an arrival, if `turn` has an outcome (`outcome_of`). `octets` begins
+    /// with the arrival's octets.
     fn put_event(&mut self, seen: Seen, turn: &Turn, octets: &[u8], rules: &Rules)
         ensures { self.new.ports ≡ self.old.ports }
     {

@@ -79,9 +79,9 @@ fn milliseconds<R: Clock>(rt: &R) -> Option<u64> {
 /// output unless the node is quiet. The log, if there is one, is written to standard error. If
 /// `source` has new rules and keys when it is checked, they replace the node's rules and keys.
 /// Invalid `parts` are reported before the port is bound. With a journal, the node starts with the
-/// state that the journal restores. If the source's rules and keys differ from the last rules and
-/// keys in the journal, the event of the first turn replaces the node's rules and keys by those of
-/// the source, and this event is journalled.
+/// state that the journal restores. Unless the last rules and keys in the journal are those of the
+/// source, the event of the first turn replaces the node's rules and keys by those of the source,
+/// and this event is journalled.
 pub fn run_on_port<
     R: AllocGlobal + Eprint + Files<File = File> + Net + Print,
     M: Moments,
@@ -92,7 +92,8 @@ pub fn run_on_port<
         (options.now.journal ≡ None → IfErr result (StopsAt options.now.listen))
         (λ fault. result ≡ Err (Fault.Script (RunFault.Node fault))) }
     // If the parts are valid, and the options ask for 0 turns and name no journal, there are only
-    // two possible faults: the endpoint cannot be bound, or memory runs out.
+    // two possible faults: the endpoint cannot be bound, or memory runs out when the node is
+    // created.
     ensures none { options.now.turns ≡ 0 → options.now.journal ≡ None
         → parts_fault parts.repo parts.cache ≡ None → IfErr result (HasNoTurns options.now.listen) }
     ensures served { OnOk result ((last : NodeState)
@@ -155,8 +156,8 @@ fn take_as_begun<
 }
 
 /// Replays a journal on a node. Then lets the node take the requested turns, and append to the
-/// journal. If the rules and keys of `source` differ from the last rules and keys in the journal,
-/// the event of the first turn replaces the node's rules and keys by those of `source`.
+/// journal. Unless the last rules and keys in the journal are those of `source`, the event of the
+/// first turn replaces the node's rules and keys by those of `source`.
 pub fn take_restored<
     R: AllocGlobal + Eprint + Print,
     J: StoredJournal,

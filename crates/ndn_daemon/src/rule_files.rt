@@ -20,7 +20,8 @@ use std::time::SystemTime;
 /// line of a journal can hold both.
 const MOST_JOURNALLED: usize = 9_985;
 
-/// The modification time and the length of a file. If one of them changes, the file has changed.
+/// The modification time and the length of a file. If one of them changes, the file counts as
+/// changed.
 #[derive(Clone, Copy, PartialEq, Eq)]
 struct Stamp {
     modified: SystemTime,

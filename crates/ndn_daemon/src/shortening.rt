@@ -8,9 +8,9 @@ use node_core::{NodeFault, RunFault};
 use std::fs::File;
 use std::rt::Files;
 
-/// Shortens the journal in a file, and prints how many lines of the journal are kept. If the
-/// function `shortened` returns no shorter journal, the file stays as it is, and the printed line
-/// says that nothing is left out.
+/// Shortens the journal in a file, and prints how many whole lines the journal had, and how many of
+/// these lines are kept. If the function `shortened` returns no shorter journal, the file stays as
+/// it is, and the printed line says that nothing is left out.
 pub fn shorten_file<R: AllocGlobal + Files<File = File> + Print>(
     rt: &R,
     options: &ShorteningOptions,
@@ -31,7 +31,8 @@ pub fn shorten_file<R: AllocGlobal + Files<File = File> + Print>(
     }
 }
 
-/// Prints how many lines of the journal at this path are kept.
+/// Prints how many whole lines the journal at this path had (`lines`), and how many of these lines
+/// are kept (`kept`).
 fn report<R: Print>(rt: &R, path: &str, lines: usize, kept: usize) -> Result<(), Fault> {
     let printed = println!(rt; "{path}: {lines} lines, {kept} kept");
     printed.map_err(|_| Fault::Script(RunFault::Write))

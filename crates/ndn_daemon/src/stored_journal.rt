@@ -1,4 +1,5 @@
-//! A journal from which a node is restored, and to which the node's later events are appended.
+//! A journal from which a node is restored, and to which the node's later events are appended if
+//! they must be journalled.
 ghost use Rattle.std.specs.Prelude.{◌≡◌, IfOk, OnErr};
 ghost use Rattle.ndn_daemon.specs.Journal.{ReplaysJournal, TellsLastRules};
 

@@ -176,7 +176,8 @@ fn check_peers(listen: &SocketAddr, peers: &[SocketAddr]) -> Result<(), Fault>
 
 /// Returns whether the peer is the node itself, which listens on `listen`. With such a peer, the
 /// node would receive its own datagrams. If `listen` has the unspecified address, this function
-/// recognizes only the loopback addresses of the machine, and none of its other addresses.
+/// recognizes only this address and the loopback addresses, and none of the machine's other
+/// addresses.
 fn is_itself(listen: &SocketAddr, peer: &SocketAddr) -> bool
     ensures { IsTrue result ↔ IsItself listen.now peer.now }
 {

@@ -28,8 +28,8 @@ pub trait RuleSource: Drop {
 pub struct Restart {
     /// The time of the node after the replay, which is also the time of these events.
     pub now: u64,
-    /// The present rules and keys of the source, if they differ from the last rules and keys in the
-    /// journal.
+    /// The present rules and keys of the source, or `None` if they are the last rules and keys in
+    /// the journal.
     pub renewal: Option<Renewal>,
     /// The open faces that are to be closed. A face is to be closed unless it has both the number
     /// and the scope of a peer's face.
