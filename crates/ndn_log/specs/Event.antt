@@ -20,9 +20,10 @@ scope_word Local = codes "local"
 scope_word Far = codes "far"
 
 -- The words for what happened. For an event on a face, the words begin with the face, followed by
--- the endpoint of the face if the endpoint is known. If octets arrived, the packet in `frame`
--- follows. If the face was opened, ` opens, ` and the scope of the face follow. If the face was
--- closed, ` closes` follows. For an event without a face, the words are `tick` or `rules replaced`.
+-- the endpoint of the face if the endpoint is known. If octets arrived, the words for the packet in
+-- `frame` follow, or the word `packet` if `frame` is None. If the face was opened, ` opens, ` and
+-- the scope of the face follow. If the face was closed, ` closes` follows. For an event without a
+-- face, the words are `tick` or `rules replaced`.
 abbrev pub came_words : Option SocketAddr → Option PlainFrame → Came → List ℕ
 came_words endpoint frame (Packet face octets) =
     face_words face endpoint ++ (codes " " ++ packet_words frame)

@@ -73,8 +73,8 @@ fn put_end(
     }
 }
 
-/// Appends what happened, with the packet that `frame` contains. If memory runs out, some of the
-/// text may be appended.
+/// Appends what happened. If octets arrived, `frame` is the frame that they encode, or `None` if
+/// they encode none. If memory runs out, some of the text may be appended.
 fn put_came(text: &mut Vec<u8>, entry: &Entry<'_>, frame: &Option<Frame<'_>>) -> Result<(), Memory>
     ensures { OnOk result (text.new.items ≡ text.old.items ++ came_words entry.now.endpoint
         (option_map plain_frame frame.now) entry.now.came) }

@@ -27,7 +27,7 @@ impl fmt::Display for Shown {
     }
 }
 
-/// The octets of a line.
+/// The octets that a line shows, without the LF at the end of the line.
 #[derive(Clone, Copy)]
 struct ShownText<'a>(&'a [u8]);
 
