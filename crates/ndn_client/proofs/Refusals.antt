@@ -1,5 +1,5 @@
--- If the packet of a job cannot be written, the returned fault is one that the job may have
--- (`IsInterestRefusal`, `IsDataRefusal`, `IsCommandRefusal`).
+-- If the packet of a job cannot be written, the returned fault satisfies the definition of a
+-- refusal for the job (`IsInterestRefusal`, `IsDataRefusal` or `IsCommandRefusal`).
 use Rattle.std.proofs.Common.{List, refl, inl, inr}
 use Rattle.hmac_keys.specs.KeyFile.{NamedKey}
 use Rattle.ndn_packets.specs.declared.fault.WriteFault.{WriteFault}

@@ -167,7 +167,7 @@ IsExplainAnswer job book text =
     IsPacketExplained (keys_given job book) (option_map (λ p. p.items) job.packet) text
 
 -- the text to print for a job if no packet is sent; the command-line parser provides the text of
--- the help
+-- the help or the version
 abbrev pub IsAnswer : Job → List NamedKey → List ℕ → Type 0
 IsAnswer (job.Help help) book text = ⊤
 IsAnswer (job.Interest asked) book text = IsLinkAnswer asked book text

@@ -34,8 +34,8 @@ status_of (fault.Unbound port) = 3
 status_of (fault.Silent why) = 3
 status_of (fault.NotDone why) = 1
 
--- the message for standard error, including its LF, or None if the command-line parser makes the
--- message
+-- the message for standard error, which ends with an LF, or None if the command-line parser makes
+-- the message
 abbrev pub text_of : Fault → Option (List ℕ)
 text_of (fault.Tool why) = tool_text why
 text_of fault.NoKeyFile = Some (codes "key not found\ngive --keys\n")

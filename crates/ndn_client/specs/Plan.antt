@@ -78,7 +78,7 @@ IsRequest asked book input packet = packet.items ≡ []
 
 -- ---- plans
 
--- `x` is the exchange of the job `asked`. The job sends a packet to a port.
+-- The job `asked` sends a packet to a port, and `x` is the exchange of this job.
 pub record IsExchange (asked : Job) (book : List NamedKey) (input : List ℕ) (x : Exchange) : Type 0
   where
     pub request : IsRequest asked book input x.request

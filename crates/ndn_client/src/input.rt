@@ -61,7 +61,8 @@ fn text_of(octets: Vec<u8>) -> Result<String, Fault>
     String::from_utf8(octets).map_err(|_| Fault::Input)
 }
 
-/// Returns the fault for standard input that cannot be read.
+/// Returns the fault for standard input that cannot be read: `Memory` if memory ran out, and
+/// otherwise `Input`.
 fn unread(error: &io::Error) -> Fault
     ensures { IsUnreadInput result }
 {

@@ -34,7 +34,8 @@ pub fn read_key_file<R: Read + Drop>(alloc: Global, path: &str, file: R) -> Resu
     }
 }
 
-/// Returns the fault for a key file that cannot be opened or read.
+/// Returns the fault for a key file that cannot be opened or read: `Memory` if memory ran out, and
+/// otherwise `Unread`.
 pub fn unread_keys(alloc: Global, path: &str, error: &io::Error) -> Fault
     ensures file { IsUnread path.now result }
     ensures cause { HasCause (error_kind error.now) result }

@@ -204,7 +204,7 @@ fn send(socket: &UdpSocket, packet: &[u8]) -> Result<(), Fault> {
 }
 
 /// Receives one datagram and returns its length in octets. Fails if no datagram arrives within
-/// `ANSWER_SECONDS` seconds after `start`.
+/// `ANSWER_SECONDS` seconds after `start`, if receiving fails, or if the clock cannot be read.
 fn receive<R: Clock>(
     rt: &R,
     socket: &UdpSocket,

@@ -59,7 +59,7 @@ map_more : {A B : Type 0} (f : A → B) (xs : List A) (n : ℕ) (x : A) → n < 
 map_more f xs n x low is =
     ap (map f) (take_more xs n x low) ∙ (map-append f (take n xs) (get_or xs n x ∷ []) ∙ ap (λ y. map f (take n xs) ++ f y ∷ []) (sym is))
 
--- a step of the loop adds the argument at index `n`
+-- a step of the loop in `with_arguments` adds the argument at index `n`
 pub argument_more : (arguments : List Argument) (n : ℕ) (other : Argument) (arg : Arg) (old new : Command) (app : App) → n < length arguments
     → HasApp (with_rules app (map rule_for (take n arguments))) old → HasRule (rule_for (get_or arguments n other)) arg → AddsArg old arg new
     → HasApp (with_rules app (map rule_for (take (n + 1) arguments))) new
@@ -68,7 +68,7 @@ argument_more arguments n other arg old new app low c r adds =
     let more = ap (with_rules app) (map_more rule_for arguments n argument low (get_or_default arguments n other argument low)) ∙ rules_then app (map rule_for (take n arguments)) (rule_for argument) in
     subst (λ (a : App). HasApp a new) (sym more) (added old arg new _ _ c r adds)
 
--- a step of the loop adds the subcommand at index `n`
+-- a step of the loop in `with_subcommands` adds the subcommand at index `n`
 pub subcommand_more : (subcommands : List Subcommand) (n : ℕ) (other : Subcommand) (sub old new : Command) (app : App) → n < length subcommands
     → HasApp (with_subcommands app (map app_for (take n subcommands))) old → HasApp (app_for (get_or subcommands n other)) sub → AddsSubcommand old sub new
     → HasApp (with_subcommands app (map app_for (take (n + 1) subcommands))) new
@@ -77,10 +77,10 @@ subcommand_more subcommands n other sub old new app low c r adds =
     let more = ap (with_subcommands app) (map_more app_for subcommands n subcommand low (get_or_default subcommands n other subcommand low)) ∙ subcommands_then app (map app_for (take n subcommands)) (app_for subcommand) in
     subst (λ (a : App). HasApp a new) (sym more) (added_below old sub new _ _ c r adds)
 
--- at the end of the loop, all arguments are added
+-- at the end of the loop in `with_arguments`, all arguments have been added
 pub arguments_all : (arguments : List Argument) (n : ℕ) (new : Command) (app : App) → length arguments ≤ n → HasApp (with_rules app (map rule_for (take n arguments))) new → HasApp (with_rules app (map rule_for arguments)) new
 arguments_all arguments n new app past h = subst (λ (xs : List Argument). HasApp (with_rules app (map rule_for xs)) new) (take_all n arguments past) h
 
--- at the end of the loop, all subcommands are added
+-- at the end of the loop in `with_subcommands`, all subcommands have been added
 pub subcommands_all : (subcommands : List Subcommand) (n : ℕ) (new : Command) (app : App) → length subcommands ≤ n → HasApp (with_subcommands app (map app_for (take n subcommands))) new → HasApp (with_subcommands app (map app_for subcommands)) new
 subcommands_all subcommands n new app past h = subst (λ (xs : List Subcommand). HasApp (with_subcommands app (map app_for xs)) new) (take_all n subcommands past) h

@@ -233,7 +233,8 @@ tool = record {
 
 -- ---- the commands that are built
 
--- `clap` parses the command by the rules `app`, and its subcommands do not share its arguments
+-- `clap` parses the command by the rules `app`, and the command's subcommands do not share the
+-- command's arguments
 abbrev pub HasApp : App → Command → Type 0
 HasApp app command = (app_of command ≡ app) × ((out-Command command).has_globals ≡ false)
 

@@ -48,8 +48,9 @@ line_said keys text line after first more (inr e) h others =
     let none = nothing_said keys more (subst (λ (t : List ℕ). IsExplainedInput keys t more) e.1 others) in
     subst (λ (lines : List (List ℕ)). AreExplained keys lines (first ++ more)) (sym e.0) (first, more, h, none, refl)
 
--- if the digits of a line encode at least one octet, and `words` explains the octets as a packet,
--- then `words` is printed after the line `head`, or alone if `head` is empty
+-- if the digits of a line encode at least one octet, and `words` explains the packet in the octets
+-- or says why they are not a packet, then `words` is printed after the line `head`, or alone if
+-- `head` is empty
 pub octets_said : (keys : Option (List NamedKey)) (text head octets words : List ℕ) → octets ≢ [] → IsExplainedPacket keys octets words → IsExplainedPart keys text head (Ok octets) (repeated head ++ words)
 octets_said keys text head [] words some h = absurd (some refl)
 octets_said keys text head (o ∷ octets) words some h = (words, h, refl)
@@ -57,8 +58,8 @@ octets_said keys text head (o ∷ octets) words some h = (words, h, refl)
 pub no_octets_said : (keys : Option (List NamedKey)) (text head octets : List ℕ) → octets ≡ [] → IsExplainedPart keys text head (Ok octets) (repeated text)
 no_octets_said keys text head octets e = subst (λ (o : List ℕ). IsExplainedPart keys text head (Ok o) (repeated text)) (sym e) refl
 
--- in a line that begins with `>`, `parts_of` gives the text before the last space and the digits
--- after this space
+-- in a line that begins with `>` and has a space, `parts_of` gives the text before the last space
+-- and the digits after this space
 pub parts_found : (line head digits : List ℕ) → is_send line ≡ true → at_last_space line ≡ Some (head, digits) → (head, digits) ≡ parts_of line
 parts_found line head digits s e = rw (s, e) refl
 

@@ -53,8 +53,9 @@ pub record AreLabels (l : Labels) (texts : Texts) : Type 0 where
 
 -- ---- entries
 
--- the short name of the strategy with this URI: `best-route` or `multicast` for these two
--- strategies, and the whole URI for any other strategy
+-- the short name of the strategy with this URI: `best-route` for
+-- `/localhost/nfd/strategy/best-route`, `multicast` for `/localhost/nfd/strategy/multicast`, and
+-- the whole URI for any other URI
 abbrev pub short_strategy : List ℕ → List ℕ
 short_strategy uri =
     if bytes_eq uri (codes "/localhost/nfd/strategy/best-route") then codes "best-route" else (

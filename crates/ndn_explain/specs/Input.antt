@@ -1,5 +1,6 @@
--- Explaining the lines of a text: a packet is replaced by its explanation, a line without a packet
--- stays as it is, and empty lines are left out.
+-- Explaining the lines of a text: octets in hexadecimal are replaced by the explanation of the
+-- packet, or by the reason why they are not a packet; any other line stays as it is, but empty
+-- lines are left out.
 use Rattle.std.specs.Prelude.{◌≡◌, ◌⊎◌, ℕ, List, [], ◌∷◌, ◌++◌, codes, Option, Result, Ok, Err, Bool, false, ◌==◌, if◌then◌else◌}
 use Rattle.hex.specs.declared.error.FromHexError.{FromHexError}
 use Rattle.hex.specs.Hex.{decode_of}
@@ -46,8 +47,9 @@ IsExplainedPacket keys octets said =
 
 -- The text `said` that is printed for the line `text`. `head` is the text before the hexadecimal
 -- digits of the line. If the digits encode at least one octet, `said` is the line `head`, followed
--- by the explanation of the octets. An empty `head` is left out. If the digits encode no octet,
--- `said` is the line `text` itself, or nothing for an empty line.
+-- by the explanation of the packet in the octets, or by the reason why they are not a packet. An
+-- empty `head` is left out. If the digits encode no octet, `said` is the line `text` itself, or
+-- nothing for an empty line.
 abbrev pub IsExplainedPart : Option (List NamedKey) → List ℕ → List ℕ
     → Result (List ℕ) FromHexError → List ℕ → Type 0
 IsExplainedPart keys text head (Err why) said = said ≡ repeated text

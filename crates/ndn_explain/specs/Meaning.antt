@@ -139,8 +139,8 @@ command_lines name = asked_lines name (parameters_in name)
 
 -- ---- replies
 
--- whether the octet is printable, that is, from 32 to 126; a text with any other octet is shown
--- in hexadecimal
+-- whether the octet is printable, that is, from 32 to 126; a StatusText with any other octet is
+-- shown in hexadecimal
 abbrev pub is_printable : ℕ → Bool
 is_printable octet = nat_le 32 octet && nat_le octet 126
 

@@ -111,8 +111,9 @@ fn put_choice(
     Ok(())
 }
 
-/// Returns the short name of the strategy with the URI `uri`: `best-route` or `multicast` for these
-/// two strategies, and the whole URI for any other strategy.
+/// Returns the short name of the strategy with the URI `uri`: `best-route` for
+/// `/localhost/nfd/strategy/best-route`, `multicast` for `/localhost/nfd/strategy/multicast`, and
+/// the whole URI for any other URI.
 fn short_strategy(uri: &[u8]) -> &[u8]
     ensures { result.now ≡ short_strategy uri.now }
 {

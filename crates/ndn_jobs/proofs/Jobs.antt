@@ -128,8 +128,8 @@ module _ (now : ℕ) (words name : List ℕ) (rows : List Row) where
   a_peek (Send job) h = absurd h
   a_peek (Ask job) h = (job, h)
 
-  -- If the verb is `list`, the job of the subcommand is a request for a list. If the verb is not
-  -- `list`, the job is a command that is given by its short form.
+  -- If the verb is `list`, the job of `route` or `strategy` is a request for a list. If the verb is
+  -- not `list`, the job is a command that is given by its short form.
 
   pub a_list : is_list rows ≡ true → (job : Job) → IsListedJob now words name rows job → (x : AskJob) × IsListJob now words name rows x
   a_list said (Help error) h = absurd h

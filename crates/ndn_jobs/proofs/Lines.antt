@@ -22,7 +22,7 @@ use Rattle.ndn_command_line.specs.CommandLine.{subcommand_named, tool}
 use Rattle.ndn_command_line.proofs.Simple.{simple, simple_and_free}
 use Rattle.ndn_jobs.specs.Command.{reading_of, faults, IsJob, IsFoundJob, IsJobOf, Asks, IsText, IsWrongLine, IsRefusedLine}
 
--- ---- the parser returns an error
+-- ---- the case that the parser returns an error
 
 module _ (now : ℕ) (arguments : List (List ℕ)) (error : Error) (has : HasKind (faults arguments) error) where
   is_no_text : (k : ErrorKind) → kind_of error ≡ k → k ≢ kind.DisplayHelp → k ≢ kind.DisplayVersion → IsText (kind_of error) → ⊥
@@ -63,7 +63,7 @@ module _ (now : ℕ) (arguments : List (List ℕ)) (error : Error) (has : HasKin
   pub answered_error : MatchResult (reading_of (kind_of error) error) (Asks now arguments) (IsRefusedLine now arguments)
   answered_error = answered_as (kind_of error) refl
 
--- ---- the parser returns matches
+-- ---- the case that the parser returns matches
 
 no_help_of : (now : ℕ) (words name : List ℕ) (rows : List Row) (error : Error) (found : Option Subcommand) → IsFoundJob found now words name rows (Help error) → ⊥
 no_help_of now words name rows error None h = h

@@ -35,7 +35,7 @@ is_word word (Some said) = bytes_eq said word
 abbrev pub is_list : List Row → Bool
 is_list rows = is_word (codes "list") (value_at rows (codes "VERB"))
 
--- whether the option is not given
+-- whether the argument is not given
 abbrev pub lacks : List Row → List ℕ → Bool
 lacks rows id = is_none (value_at rows id)
 

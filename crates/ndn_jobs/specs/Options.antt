@@ -1,4 +1,5 @@
--- What the options of a subcommand spell, given the values that were parsed for them.
+-- What the options of a subcommand spell, given the values that were parsed for them. A positional
+-- argument counts as an option here.
 use Rattle.std.specs.Prelude.{◌≡◌, ℕ, List, Option, None, Some, Bool, true, false, is_some, is_none, ◌&&◌, codes, bytes_eq, if◌then◌else◌, unwrap_or, String, Vec, string_bytes}
 use Rattle.clap.specs.declared.parser.matches.ArgMatches.{ArgMatches}
 use Rattle.clap.specs.Matches.{found_of}

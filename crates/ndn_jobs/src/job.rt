@@ -39,8 +39,8 @@ pub enum Job {
     Explain(ExplainJob),
     /// Send a packet, and print the first datagram that comes back.
     Send(SendJob),
-    /// If a destination port is given, send an Interest, and print what its answer contains.
-    /// Otherwise print the Interest.
+    /// If a destination port is given, send an Interest (for a list, one for each segment), and
+    /// print what the answers contain. Otherwise print the first Interest.
     Ask(AskJob),
 }
 
@@ -437,9 +437,9 @@ impl AskJob {
     ghost use Rattle.ndn_jobs.specs.Options.{rows_in};
     ghost use Rattle.ndn_jobs.specs.Ask.{IsListJob, IsPeekJob};
 
-    /// Returns the job of the subcommand with this name and of the verb `list`: an Interest for a
-    /// list. If no Nonce is given, the Nonce is computed from the time and the words of the command
-    /// line.
+    /// Returns the job of the verb `list` of the subcommand with this name: an Interest for the
+    /// first segment of the list. If no Nonce is given, the Nonce is computed from the time and the
+    /// words of the command line.
     pub fn read_list(
         alloc: Global,
         subcommand: &str,

@@ -1,4 +1,5 @@
-//! The values of a subcommand's options, found by the ids of the options.
+//! The values of a subcommand's options, found by the ids of the options. A positional argument
+//! counts as an option here.
 ghost use Rattle.std.specs.Prelude.{◌≡◌, Some, None, option_map, MatchResult};
 ghost use Rattle.ndn_names.specs.ReadsAs.{ReadsAs};
 ghost use Rattle.ndn_jobs.specs.Value.{IsNumber, IsHops, IsPort, AreOctets, IsPacket, IsNonce, IsTokenText, IsUsage, Reads, ReadsInMemory};

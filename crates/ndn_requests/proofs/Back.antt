@@ -58,7 +58,7 @@ number_read n lt = shortest_again n lt
 pub name_read : (name : List Field) → IsWhole name → name_at (octets_of name) ≡ Ok name
 name_read name whole = name_again (octets_of name) name whole
 
--- ---- indexes into a list
+-- ---- the indexes of a list
 
 pub at_right : {X : Type 0} (xs ys : List X) (i k : ℕ) → i ≡ length xs + k → slice_get (xs ++ ys) i ≡ slice_get ys k
 at_right [] ys i k is = ap (slice_get ys) (is ∙ zero-add k)

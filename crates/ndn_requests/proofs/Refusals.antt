@@ -9,7 +9,7 @@ use Rattle.ndn_packets.specs.Writing.{interest_refusal}
 use Rattle.ndn_requests.specs.Lists.{next_name}
 use Rattle.ndn_requests.specs.Exchange.{AsksPlainly, IsNoRequest, IsNextRefusal}
 
--- the fault `why` of a writer is the cause of the refusal; if there is no cause, the fault is
+-- `why` is the cause for which a packet cannot be written; if there is no such cause, `why` is
 -- `Memory`
 abbrev pub IsToldBy : Option WriteFault → WriteFault → Type 0
 IsToldBy None why = why ≡ Memory

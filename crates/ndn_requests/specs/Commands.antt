@@ -60,8 +60,8 @@ node_name action = node_path (row_of action).part (row_of action).verb
 abbrev pub kinds : Parameters → List ℕ
 kinds p = map (λ (f : Field). f.0) (node_fields p)
 
--- whether the parameters suit the command: the command allows every field that is present,
--- including the name, and no required field is missing
+-- whether the parameters suit the command: the command allows every field that is present, no
+-- required field is missing, and the name is not empty, or the command allows the empty name
 abbrev pub suits : Action → Parameters → Bool
 suits action p =
     list_all (λ kind. takes kind (row_of action)) (kinds p)

@@ -9,7 +9,7 @@ pub enum Silence {
     /// The name is under `/localhost`, and the packet was sent from a port that the system chose. A
     /// node accepts such names only from its Local peers.
     Far,
-    /// A program listens, but no answer came in time.
+    /// No answer came in time, although no error showed that the port is closed.
     Late,
     /// The node sent no further segment of a list in time.
     Changed,

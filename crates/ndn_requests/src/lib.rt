@@ -1,5 +1,5 @@
-//! Requests to a node and the answers to them: the names of commands, and the outcome of a request,
-//! given the datagram that answers it.
+//! Requests to a node or a repository, and the answers to them: the names of commands, and the
+//! outcome of a request, given the datagram that answers it.
 #![tactic(auto)]
 
 mod exchange;

@@ -39,7 +39,7 @@ pub struct Parameters {
     pub strategy: Option<NameBuf>,
     /// The greatest number of Data to erase.
     pub count: Option<u64>,
-    /// Whether Data are included whose names begin with `name` and are longer (CanBePrefix).
+    /// Whether to include Data with names that begin with `name` and are longer (CanBePrefix).
     pub can_be_prefix: bool,
     /// The InterestLifetime in milliseconds.
     pub lifetime: Option<u64>,
