@@ -27,9 +27,10 @@ IsOurs face = (face < 63) ⊎ (face ≡ 2 ^ 64 - 1)
 abbrev pub AreOurs : Routes → Type 0
 AreOurs routes = (face : ℕ) → LeadsTo routes face → IsOurs face
 
--- ---- at most 64 faces
+-- ---- the limit of 64 faces
 
--- if `f` is the greatest face number, a list whose faces are all greater than `f` is empty
+-- if `f` is the greatest face number, a list is empty if all its faces are greater than `f` and
+-- `IsOurs` holds for each of them
 none_above : (f : ℕ) (l : List ℕ) → f ≡ 2 ^ 64 - 1 → AllByRecursion (λ g. f < g) l → AllByRecursion IsOurs l → length l ≤ 0
 none_above f [] last above ours = omega arith
 none_above f (g ∷ l) last above ours =
@@ -89,8 +90,8 @@ same_key : (k key : RouteKey) → eq_by_cmp route_cmp k key ≡ true → k ≡ k
 same_key k key e = route_cmp-antisymmetric k key (equal (route_cmp k key) e)
 
 -- Each lemma of this module is about a lookup in an empty map, or in a map after an insertion, a
--- removal or a change of its values. The lemma concludes `A` from the premise that the lookup finds
--- a value. Its other premises give `A` for each case in which the lookup can find a value.
+-- removal or a change of its values. If the lookup finds a value, and `A` follows in each case in
+-- which the lookup can find a value, then `A` is true. In an empty map, there is no such case.
 module _ {X A : Type 0} where
   none_there : (o : Option X) → o ≡ None → IsSome o → A
   none_there o e some = absurd cc

@@ -47,7 +47,7 @@ fn key_of<'a>(name: Name<'a>, flags: &str) -> Key<'a> {
 
 /// Returns the Content of the Data that an Interest gets, or `none` if the Interest gets no Data.
 /// `words` are the Interest's name, its flags (`p` for CanBePrefix, `f` for MustBeFresh) and the
-/// moment.
+/// moment of the lookup.
 fn find(alloc: Global, store: &mut Store, words: &str) -> Option<String> {
     let (uri, rest) = words.split_once(' ')?;
     let (flags, now) = rest.split_once(' ')?;

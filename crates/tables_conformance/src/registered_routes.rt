@@ -245,8 +245,9 @@ register / 2 cost=1, register /A 2 cost=9 until=5, register /A/B 3, of /A/B, lis
 register /A 2 cost=1 until=5, register /A 2 cost=9 origin=1, of /A, list 5, expire 5, of /A -> 2@1; /A 2@9; 1; 2@9
 ";
 
-/// A route that has expired has no effect any more on the effective next hops of its name and of
-/// longer names.
+/// An expired route has no effect any more on the effective next hops of its name and of longer
+/// names. `list` leaves the route out from its deadline on, and lookups leave the route out after
+/// `expire`.
 #[test]
 fn what_ends_with_a_route(rt: HostRuntime) {
     check_rows(&rt, rt.alloc(), WHAT_ENDS_WITH_A_ROUTE, answers);

@@ -186,9 +186,9 @@ all: / 2 5, / 3 0; - - 1009; 7@1000 -> send 2 3
 }
 
 /// Best-route chooses a next hop that was not used. If all next hops were used, best-route chooses
-/// a next hop whose last use is the earliest. If there are several such next hops, best-route
-/// chooses the one with the least cost. If several of them have the least cost, best-route chooses
-/// the one with the least face.
+/// a next hop whose last use is the earliest. Among several unused next hops, or several with the
+/// earliest last use, best-route chooses the one with the least cost. If several of these have the
+/// least cost, best-route chooses the one with the least face.
 #[test]
 fn best_route_takes_the_least_hop(rt: HostRuntime) {
     let rows = "

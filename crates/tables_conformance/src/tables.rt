@@ -519,8 +519,8 @@ fn is_full_of_strategies(alloc: Global, table: &mut StrategyTable) -> Option<boo
     Some(are_refused && is_known && root.is_ok())
 }
 
-/// Returns whether a table takes strategies for 4,096 names, `/` among them, and then refuses a
-/// further name until a strategy is removed.
+/// Sets strategies for 4,095 names besides `/`, and returns `None` if one of these names is
+/// refused. Otherwise returns whether a further name is then refused until a strategy is removed.
 fn takes_4096_strategies(alloc: Global, table: &mut StrategyTable) -> Option<bool> {
     for number in (1..4096).rev() {
         set_numbered(alloc, table, number)?.ok()?;

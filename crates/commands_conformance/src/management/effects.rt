@@ -301,7 +301,8 @@ add 68080703080141690102, add 680807030801416a0105, remove 68050703080141, route
     check_rows(&rt, rt.alloc(), rows, answers);
 }
 
-/// A dataset lists names in canonical order, and the next hops of a name by cost and then by face.
+/// The dataset of routes lists names in canonical order, and the next hops of a name by cost and
+/// then by face.
 #[test]
 fn lists_are_in_order(rt: HostRuntime) {
     let rows = "

@@ -143,7 +143,7 @@ register 680b07030801416901026a0103, register 680f07030801416901026a01036d0203e8
 }
 
 /// If a name has two routes with the same face and different origins, the lesser cost is used. A
-/// command that removes one of these routes names the route's origin.
+/// command that removes one of these routes must contain the route's origin.
 #[test]
 fn routes_of_two_origins(rt: HostRuntime) {
     let rows = "

@@ -182,7 +182,8 @@ impl Spelled {
 
 /// Returns the lexicographically greatest list of counts that splits the letters among the atoms,
 /// or `None` if there is no split. Tries the counts of the first atom from the greatest to the
-/// least, and takes the first count for which the other atoms have a split.
+/// least, and takes the first count for which the first atom matches its letters and the other
+/// atoms have a split.
 fn greatest_split(atoms: &[Spelled], letters: &[u8]) -> Option<[usize; ATOMS]> {
     let Some((atom, others)) = atoms.split_first() else {
         return letters.is_empty().then_some([0; ATOMS]);

@@ -345,7 +345,8 @@ rule {␊ id a␊ for data␊ checker {␊ type customized␊ sig-type rsa-sha25
 data /A by /ops/KEY/1 key → allowed 0
 ";
 
-/// A packet is allowed if at least one checker of the rule accepts it.
+/// A Data is allowed if the first rule that applies to the Data has at least one checker that
+/// accepts the Data.
 #[test]
 fn one_checker_passes(rt: HostRuntime) {
     assert_right(&rt, first_wrong_of(rt.alloc(), ONE_CHECKER));
@@ -361,7 +362,7 @@ octets 053307280801410801420220620e59c59d04596b40d4cbe11e875a127f928accec817bec4
 ";
 
 /// If a rule applies to an Interest without a signature, the rule denies the Interest. A filter
-/// tests the Interest's name without the name's parameters digest.
+/// tests the Interest's name without a parameters digest at its end.
 #[test]
 fn interests_that_are_not_signed(rt: HostRuntime) {
     assert_right(&rt, first_wrong_of(rt.alloc(), NOT_SIGNED));

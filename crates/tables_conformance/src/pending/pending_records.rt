@@ -89,8 +89,8 @@ ask /A 1 7 5000, nack /A 1 7 50, nack /A+f 1 7 50 -> yes; no pending; no pending
 ";
 
 /// Suppose that each face to which an Interest was sent has answered with a Nack. Then the result
-/// of the last Nack has the least reason among these Nacks. A Nack counts only if it has the Nonce
-/// that was last sent to its face.
+/// of the last Nack has the least reason among the latest Nacks of these faces. A Nack counts only
+/// if it has the Nonce that was last sent to its face.
 #[test]
 fn the_least_nack_of_all_faces_asked(rt: HostRuntime) {
     check_rows(&rt, rt.alloc(), THE_LEAST_NACK_OF_ALL_FACES_ASKED, answers);

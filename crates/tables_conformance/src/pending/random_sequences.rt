@@ -210,8 +210,8 @@ fn is_same(octets: Option<&[u8]>, ask: Option<Asks>) -> bool {
     }
 }
 
-/// For a key and a face, returns whether the table and `records` have the same pending Interest and
-/// the same moment at which an Interest was last sent.
+/// For a key and a face, returns whether the table and `records` have the same pending Interest of
+/// the face and the same moment at which an Interest was last sent to the face.
 fn shows(table: &Table, records: &Records, at: usize, key: Key<'_>, face: u64) -> bool {
     is_same(table.pit.interest_of(key, face), records.ask_of(at, face))
         && table.pit.used(key).get(face) == records.moment_of(at, face)
@@ -316,8 +316,8 @@ fn loop_agrees(
 }
 
 /// Compares the table and the records on whether an Interest loops, and then records the Interest
-/// in both. Returns whether they agree, and the table accepts the Interest. The field `moment` of
-/// `one` is the deadline of the Interest.
+/// in both. Returns whether the table and the records agree, and the table accepts the Interest.
+/// The field `moment` of `one` is the deadline of the Interest.
 fn ask_agrees(
     table: &mut Table,
     records: &mut Records,
@@ -352,7 +352,8 @@ fn sent_agrees(
     Some(table.sent(key, asker, one.face, octets_of(one.nonce), one.moment) == asks)
 }
 
-/// Makes the same random removal in the table and in the records.
+/// Makes the same removal in the table and in the records. The number `removal` selects the kind of
+/// removal.
 fn remove(table: &mut Table, records: &mut Records, key: Key<'_>, removal: u64, one: Asked) {
     match removal {
         0 => {

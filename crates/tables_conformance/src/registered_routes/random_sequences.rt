@@ -253,7 +253,7 @@ impl Plain {
     }
 
     /// Among the prefixes of a name, returns the longest one that has a next hop or a route, or
-    /// `None` if no prefix has one.
+    /// `None` if there is no such prefix.
     fn longest(&self, name: usize) -> Option<usize> {
         let mut longest = None;
         for prefix in 0..8 {

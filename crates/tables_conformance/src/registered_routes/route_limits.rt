@@ -190,9 +190,10 @@ fn finds_33(fib: &Fib, name: Name<'_>) -> Option<bool> {
     Some(steps <= 64 && hops.len() == 33 && first.face == 32 && last.face == 0)
 }
 
-/// Looks up a name of 64 components. Returns whether the lookup takes at most one search for each
-/// component, and finds the routes of 33 prefixes. These routes are on 33 different faces. The
-/// route of each prefix has a lesser cost than the route of the next shorter prefix.
+/// Registers routes of 33 prefixes of a name of 64 components, on 33 different faces, and looks up
+/// the name. Returns whether the lookup takes at most one search for each component, and finds all
+/// these routes. The route of each prefix has a lesser cost than the route of the next shorter
+/// prefix.
 fn looks_up_64_components(alloc: Global, routes: &mut RouteTable) -> Option<bool> {
     register_33(alloc, routes)?;
     let deep = deep_name(alloc, 64)?;
