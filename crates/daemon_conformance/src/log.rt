@@ -23,7 +23,7 @@ impl Moments for Still {
     }
 }
 
-/// Returns a port that no socket uses.
+/// Returns a port of 127.0.0.1 to which no socket is bound.
 pub fn free_port(rt: &impl Net) -> Option<u16> {
     let socket = UdpSocket::bind(rt, (Ipv4Addr::LOCALHOST, 0)).ok()?;
     Some(socket.local_addr().ok()?.port())
@@ -50,11 +50,12 @@ pub fn on_node<F: Fn(&mut Node) -> Option<bool>>(alloc: Global, play: &F) -> Opt
     play(&mut node)
 }
 
-/// A sink that checks the lines of each call of `take`. If the text of the lines begins with
-/// `front` and ends with `back`, the call adds 1 to `held`. Otherwise the call sets `held` to the
-/// greatest u64.
+/// A sink that checks the lines of each call of `take`. If there are `count` lines, and their text
+/// begins with `front` and ends with `back`, the call adds 1 to `held`. Otherwise the call sets
+/// `held` to the greatest u64.
 #[derive(Drop)]
 struct Expected<'a> {
+    count: usize,
     front: &'static str,
     back: &'static str,
     held: &'a Cell<u64>,
@@ -64,7 +65,11 @@ impl<'a> LogSink for Expected<'a> {
     ghost given = { λ _. None };
 
     fn take(&mut self, lines: &[u8]) {
-        if lines.starts_with(self.front.as_bytes()) && lines.ends_with(self.back.as_bytes()) {
+        let count = lines.iter().filter(|octet| **octet == b'\n').count();
+        if count == self.count
+            && lines.starts_with(self.front.as_bytes())
+            && lines.ends_with(self.back.as_bytes())
+        {
             self.held.set(self.held.get().saturating_add(1));
         } else {
             self.held.set(u64::MAX);
@@ -84,6 +89,7 @@ fn writes(
 ) -> Option<bool> {
     let listen = free_port(rt)?;
     let sink = Expected {
+        count: expected.count,
         front: expected.front,
         back: expected.back,
         held: expected.held,
@@ -127,6 +133,7 @@ fn written(
 fn log_of_what_is_dropped(rt: HostRuntime) {
     let held = Cell::new(0);
     let expected = Expected {
+        count: 1,
         front: "1970-01-01T00:16:40.000Z face 1 127.0.0.1:",
         back: " packet: dropped, Malformed Tlv Truncated, 3 octets beginning 0503ff\n",
         held: &held,
@@ -141,6 +148,7 @@ fn log_of_what_is_dropped(rt: HostRuntime) {
 fn log_without_plain_forwarding(rt: HostRuntime) {
     let held = Cell::new(0);
     let expected = Expected {
+        count: 0,
         front: "nothing",
         back: "nothing",
         held: &held,
@@ -150,12 +158,13 @@ fn log_without_plain_forwarding(rt: HostRuntime) {
     assert!(rt; held.get() == 0);
 }
 
-/// If the log shows all events, it has a line for the opening of a face, and then a line for an
-/// Interest that is answered by a Nack.
+/// If the log shows all events, it has two lines: one for the opening of a face, and then one for
+/// an Interest that is answered by a Nack.
 #[test]
 fn log_of_all(rt: HostRuntime) {
     let held = Cell::new(0);
     let expected = Expected {
+        count: 2,
         front: "1970-01-01T00:16:40.000Z face 1 127.0.0.1:",
         back: " Interest /A: passed\n",
         held: &held,

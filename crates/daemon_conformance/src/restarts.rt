@@ -130,9 +130,9 @@ const NO_RULES_AND_A_FACE: &str = "rules 0 - -\nup 1 far 1000000\n";
 
 const OTHER_RULES: &str = "rules 0 - -\nup 1 far 1000000\nrules 1000000 3b -\n";
 
-/// A start adds a line of new rules if the journal has no rules, or if the last rules in the
-/// journal are not the rules of the start. Otherwise, if no face must close, the start adds only a
-/// line for the face that a datagram opens.
+/// In its one turn, a start adds a line of new rules if the journal has no rules, or if the last
+/// rules in the journal are not the rules of the start. Otherwise, if no face must close, the start
+/// adds a line for the face that a datagram opens.
 #[test]
 fn rules_at_a_start(rt: HostRuntime) {
     assert!(rt; start_leaves(&rt, "", b"", &[], NO_RULES) == Some(true));
@@ -159,4 +159,6 @@ fn faces_at_a_start(rt: HostRuntime) {
     let local = "rules 0 - -\nup 1 local 5\n";
     let closed = "rules 0 - -\nup 1 local 5\ndown 1 5\n";
     assert!(rt; start_leaves(&rt, local, b"", &peers, closed) == Some(true));
+    let unchanged = "rules 0 - -\nup 1 far 5\n";
+    assert!(rt; start_leaves(&rt, unchanged, b"", &peers, unchanged) == Some(true));
 }
