@@ -516,8 +516,8 @@ status 1
 ";
 
 /// Tests commands that are refused. One key is not in the key file. One name already has a
-/// parameters digest. Two names have too many components, so the parameters and the digest cannot
-/// be appended.
+/// parameters digest. Two names have 63 and 64 components, so the parameters and the digest cannot
+/// both be appended.
 #[test]
 fn unwritten_commands(rt: HostRuntime) {
     check_session(&rt, OPS, UNWRITTEN_COMMANDS);

@@ -7,7 +7,7 @@ use std::test::*;
 use test_support::octets;
 
 /// Returns the encoding of a number. Returns `None` if reading the encoding does not give the
-/// number.
+/// number, or if `number_len` returns another length.
 fn spelling(alloc: Global, number: &str) -> Option<String> {
     let number = number.parse().ok()?;
     let mut out = Vec::new(alloc);
@@ -150,7 +150,8 @@ fn integer(alloc: Global, input: &str) -> Option<String> {
     }
 }
 
-/// Returns the shortest NonNegativeInteger encoding of a number.
+/// Returns the shortest NonNegativeInteger encoding of a number. Returns `None` if `nni_len`
+/// returns another length.
 fn shortest_integer(alloc: Global, number: &str) -> Option<String> {
     let number = number.parse().ok()?;
     let mut out = Vec::new(alloc);

@@ -123,8 +123,8 @@ fn read_all<R: Print>(rt: &R, packet: &mut [u8]) -> io::Result<()> {
     print_run(rt, &run)
 }
 
-/// Returns the packet whose hexadecimal digits are the line without its last octet, which is an LF.
-/// The error is `InvalidData` if the digits are not hexadecimal.
+/// Returns the packet whose hexadecimal digits are the line without its last octet, which must be
+/// an LF. The error is `InvalidData` if the packet cannot be decoded.
 fn packet_of(alloc: Global, line: &[u8]) -> io::Result<Vec<u8>> {
     match hex::decode(alloc, &line[..line.len().saturating_sub(1)]) {
         Ok(packet) => Ok(packet),

@@ -281,7 +281,7 @@ fn outcomes(packet: &mut [u8], change: &Change<'_>) -> Result<u64, &'static str>
 }
 
 /// Changes `COMMAND` as a row says. Returns the number of changed packets if all of them have the
-/// outcome in the row. Otherwise returns the first other outcome.
+/// outcome in the row. Otherwise returns the first outcome that differs.
 fn changed(alloc: Global, input: &str) -> Option<String> {
     let change = change_in(input)?;
     let mut command = octets(alloc, COMMAND)?;

@@ -82,9 +82,9 @@ fn ends_with(outbox: &Outbox, nack: &[u8]) -> bool {
     outbox.sent(1) == Some((1, nack)) && outbox.len() == 2 && outbox.sent(2).is_none()
 }
 
-/// Gives a node this Interest twice, and then clears the outbox. Returns whether the outbox is
-/// empty at first, has two packets before it is cleared, and is empty afterwards. The second packet
-/// must be this Nack.
+/// Opens face 1 of a node, gives the node this Interest twice, and then clears the outbox. Returns
+/// whether both verdicts are `Passed`, and whether the outbox is empty at first, has two packets
+/// before it is cleared, and is empty afterwards. The second packet must be this Nack.
 fn sends_in_order(node: &mut Node, outbox: &mut Outbox, interest: &[u8], nack: &[u8]) -> bool {
     let was_empty = outbox.is_empty();
     let passed = opens(node, outbox)

@@ -170,8 +170,8 @@ pub fn hexadecimal_of(word: &str) -> &str {
     word
 }
 
-/// Returns the octets for a word of the dialogues, or an empty vector if the word stands for no
-/// octets or memory runs out.
+/// Returns the octets of the packet for which a word of the dialogues stands. Returns an empty
+/// vector if there is no such packet and the word is not hexadecimal, or if memory runs out.
 pub fn octets_of(alloc: Global, word: &str) -> Vec<u8> {
     hex::decode(alloc, hexadecimal_of(word)).unwrap_or(Vec::new(alloc))
 }

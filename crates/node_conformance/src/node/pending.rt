@@ -76,8 +76,8 @@ in 3 1000000 D_AB
 ";
 
 /// A Data with a longer name answers an Interest with CanBePrefix. A Data is not sent back to the
-/// face from which it came. However, if it answers an Interest of this face, the Interest is no
-/// longer pending.
+/// face from which it came. However, if the Data answers an Interest of this face, the Interest is
+/// no longer pending.
 #[test]
 fn data_answers(rt: HostRuntime) {
     replies(&rt, DATA_ANSWERS);

@@ -132,7 +132,7 @@ fn arrival_of(alloc: Global, line: &str) -> Option<OwnedArrival> {
 }
 
 /// Appends the arrival that a line of a script spells. Appends nothing for an empty line. Returns
-/// `None` if any other line spells no arrival, or if memory runs out.
+/// `None` if a line that is not empty spells no arrival, or if memory runs out.
 fn push_arrival(alloc: Global, arrivals: &mut Vec<OwnedArrival>, line: &str) -> Option<()> {
     if line.is_empty() {
         return Some(());
@@ -206,9 +206,9 @@ pub fn prints(alloc: Global, node: &mut Node, dialogue: &str, wanted: &str) -> O
 }
 
 /// Serves a node with the events of `FIRST_PATH` for at most `turns` turns, and returns whether the
-/// result is `wanted`. The `next`th call of the port's method `next` fails, and so does the
-/// `send`th call of the method `send`. If `next` is 0, no call of the method `next` fails. If
-/// `send` is 0, no call of the method `send` fails.
+/// result is `wanted`. `next` is the number of the call of the port's method `next` that fails, and
+/// `send` is the number of the call of the port's method `send` that fails. The number 0 means that
+/// no call of this method fails.
 fn node_serves(
     alloc: Global,
     node: &mut Node,
@@ -239,7 +239,7 @@ fn serves(
 }
 
 /// Returns the result of a call of `serve` in which this many events come and this many sends fail.
-/// `ended` is true if the port ends before the last turn.
+/// `ended` is true if the port reaches its end in one of the turns.
 fn came(events: u64, failed_sends: u64, ended: bool) -> Result<Served, ServeFault> {
     Ok(Served {
         events,
@@ -284,8 +284,8 @@ fn goes_on(alloc: Global, next: u64, before: u64, left: u64) -> Option<bool> {
     )
 }
 
-/// Returns what `stops_and_ends` returns for a port with the events of `FIRST_PATH`. The `next`th
-/// call of the port's method `next` fails.
+/// Returns what `stops_and_ends` returns for a port with the events of `FIRST_PATH`. The call of
+/// the port's method `next` with the number `next` fails. The first call has the number 1.
 fn node_goes_on(alloc: Global, node: &mut Node, next: u64, before: u64, left: u64) -> Option<bool> {
     let mut ports = ports_of(alloc, FIRST_PATH)?;
     ports.fail_next(next);

@@ -61,9 +61,9 @@ fn is_line_of_send(alloc: Global, line: &str, sent: Option<(u64, &[u8])>) -> Opt
     Some(sent == Some((face, octets.as_slice())))
 }
 
-/// Returns whether a node sends the packets of a dialogue, and its verdicts are of the kinds in the
-/// dialogue. Returns `None` if one of the test's own allocations fails. `outbox` receives the
-/// packets that the node sends for each event.
+/// Returns whether a node sends the packets of a dialogue, and the node's verdicts are of the kinds
+/// in the dialogue. Returns `None` if one of the test's own allocations fails. `outbox` receives
+/// the packets that the node sends for each event.
 fn plays(alloc: Global, node: &mut Node, outbox: &mut Outbox, dialogue: &str) -> Option<bool> {
     let mut verdict = None;
     let mut sends = 0;

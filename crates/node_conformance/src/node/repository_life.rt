@@ -100,8 +100,8 @@ in 1 1001203 CHECK_B_AGAIN
 > 1 B_STORED
 ";
 
-/// If the repository wants a Data that is in the cache, it does not store the cached Data. It
-/// stores the Data when the Data comes again.
+/// If the repository wants a Data that is in the cache, the repository does not store the cached
+/// Data. The repository stores the Data when the Data comes again.
 #[test]
 fn the_cache_fills_no_want(rt: HostRuntime) {
     replies_with_each_cache(&rt, THE_CACHE_FILLS_NO_WANT);

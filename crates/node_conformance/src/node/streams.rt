@@ -61,8 +61,9 @@ fn end_of(
     Some(run_script(alloc, input, output, parts(alloc)?))
 }
 
-/// Returns whether a script that is read in pieces has these answers. The input fails after the
-/// script if `fails` is true, and ends otherwise.
+/// Returns whether a script that is read in pieces has these answers. If `fails` is true, the input
+/// fails after the script, and the script must end with the fault `Read`. Otherwise the input ends,
+/// and the script must end without a fault.
 fn reads(alloc: Global, script: &str, size: usize, fails: bool, answers: &str) -> bool {
     let mut input = Pieces {
         rest: script.as_bytes(),

@@ -65,7 +65,7 @@ pub fn port_of(socket: &UdpSocket) -> Option<u16> {
     Some(socket.local_addr().ok()?.port())
 }
 
-/// Returns a port of this machine to which no socket is bound.
+/// Returns a port of 127.0.0.1 to which no socket is bound.
 pub fn free_port(rt: &impl Net) -> Option<u16> {
     port_of(&bound_socket(rt)?)
 }
@@ -123,7 +123,8 @@ fn hears(alloc: Global, socket: &UdpSocket, word: &str) -> bool {
     hears_octets(socket, octets.as_slice())
 }
 
-/// Returns whether this many turns are served, and each send in these turns succeeds.
+/// Returns whether an event comes in each of this many turns, no event is refused for lack of
+/// memory, and each send succeeds.
 fn passes<M: Moments>(alloc: Global, node: &mut Node, ports: &mut UdpPorts<M>, turns: u64) -> bool {
     serve(alloc, node, ports, turns)
         == Ok(Served {
@@ -228,8 +229,8 @@ fn takes_soon(alloc: Global, node: &mut Node, ports: &mut UdpPorts<Still>) -> bo
     serve_turn_soon(node, ports, &mut [0; FRAME_ROOM], &mut outbox).is_some()
 }
 
-/// Returns whether `serve_turn_soon` takes exactly two turns: one that opens a face, and one that
-/// answers the packet on that face.
+/// Returns whether `serve_turn_soon` takes exactly two turns. For a datagram of a new client, the
+/// first turn opens a face, and the second turn answers the packet on that face.
 fn are_taken_soon(alloc: Global, node: &mut Node, ports: &mut UdpPorts<Still>) -> bool {
     let opened = takes_soon(alloc, node, ports);
     let answered = takes_soon(alloc, node, ports);
