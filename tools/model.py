@@ -8,8 +8,8 @@ lists, and reads packets with `grammar`.
 - The only commands are `fib/add-nexthop`, `fib/remove-nexthop` and those of the repository.
 - The cache and the PIT have no limits.
 
-The model raises `Beyond` for a face that cannot be opened, for an allowed command that is not listed above, and for an
-Interest for the list of strategies.
+The model raises `Beyond` for a face that cannot be opened, for an allowed command with a verb that is not listed above,
+and for an Interest for the list of strategies.
 """
 
 import hashlib
