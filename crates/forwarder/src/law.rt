@@ -172,13 +172,13 @@ pub fn rules_in_force()
 {}
 
 /// Law: let the repository store no objects before a valid run. Then each Data in a valid answer to
-/// the event after the run was asked for by the face that the Data is sent to. Either the event
-/// brings the Data, the first rule that applies allows the Data, and the Data answers an Interest
-/// that is pending on that face. Or the event brings an Interest on that face, and at least one of
-/// two things is true: the Data answers the Interest and was allowed in an event of the run, or the
-/// Data is the node's own answer to the Interest. The node's own answer is a segment of a list, or
-/// the reply to a command. The law requires that the octets of the event's packet are numbers below
-/// 256, which is true of every event of a node.
+/// the event after the run was asked for by the face that the Data is sent to. There are two cases.
+/// In the first case, the event brings the Data, the first rule that applies allows the Data, and
+/// the Data answers an Interest that is pending on the face. In the second case, the event brings
+/// an Interest on the face, and at least one of two things is true: the Data answers the Interest
+/// and was allowed in an event of the run, or the Data is the node's own answer to the Interest.
+/// The node's own answer is a segment of a list, or the reply to a command. The law requires that
+/// the octets of the event's packet are numbers below 256, which is true of every event of a node.
 pub fn every_data_sent_was_asked_for()
     ensures read { (first : Policy) (past : Run) (event : PlainEvent) (answer : Answer) (face : ℕ)
         (octets whole : List ℕ) (d : PlainData) (reply : MayReply first past event answer)
