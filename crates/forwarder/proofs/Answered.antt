@@ -37,7 +37,7 @@ use Rattle.forwarder.proofs.Handled.{where_true, where_false}
 
 -- ---- whether memory ran out, and what advancing time leaves unchanged
 
--- `HandlesPacket` is true if memory ran out, only the cache changed, and nothing was sent
+-- if memory ran out, and only the cache changed, and nothing was sent, then `HandlesPacket` is true
 pub refused_packet : {old new : State} {before after : List Send} {face : ℕ} {token : Token} {moment : ℕ} {packet : PlainFrame} (r : Result code.Verdict Memory) → IsErr r
     → ChangesCacheOnly (state_of old) (state_of new) × (after ≡ before) → HandlesPacket old new before after face token moment packet r
 refused_packet (Ok verdict) refused kept = absurd (false≢true refused)

@@ -86,8 +86,9 @@ undecided_effect p (FaceDown face now) = with_closed p face
 undecided_effect p (Tick now) = p
 undecided_effect p (NewRules rules keys now) = with_rules p rules keys
 
--- `new` is the policy after the effect of `event` on the policy `p`. `Some packet` is the event's
--- packet, which rules decide. With None, the event brings no packet that rules decide.
+-- `new` is the policy after the effect of `event` on the policy `p`. With `Some packet`, the event
+-- brings this packet, and the rules decide whether it is allowed. With None, the event brings no
+-- packet that rules decide.
 abbrev pub IsEffect : Policy → PlainEvent → Policy → Option PlainFrame → Type 0
 IsEffect p event new None = new ≡ undecided_effect p event
 IsEffect p event new (Some packet) =
