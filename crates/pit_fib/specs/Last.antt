@@ -21,23 +21,23 @@ later (Some a) (Some b) = if nat_lt b.deadline a.deadline then Some a else Some 
 abbrev pub ask_in : ℕ → Option Kept → Option InRecord
 ask_in face kept = option_and_then (λ s. map.get s.records.in_records face) kept
 
--- the last in-record (`later`) among the in-record `last`, if given, and the face's in-records
--- under the row's keys without CanBePrefix
+-- the in-record that `later` chooses from these: `last`, if given, and the face's in-records under
+-- the row's keys without CanBePrefix
 abbrev pub last_exact : ℕ → Option InRecord → Row → Option InRecord
 last_exact face last row =
     later (later last (ask_in face (map.get row (flags false false))))
     (ask_in face (map.get row (flags false true)))
 
--- the last in-record (`later`) among the in-record `last`, if given, and the face's in-records
--- under the row's keys with CanBePrefix
+-- the in-record that `later` chooses from these: `last`, if given, and the face's in-records under
+-- the row's keys with CanBePrefix
 abbrev pub last_prefix : ℕ → Option InRecord → Row → Option InRecord
 last_prefix face last row =
     later (later last (ask_in face (map.get row (flags true false))))
     (ask_in face (map.get row (flags true true)))
 
--- The last in-record (`later`) among the in-record `last`, if given, and the face's in-records
--- under the row's keys that a Data answers. A Data answers the keys with CanBePrefix and, if
--- `is_own` is true, also the keys without CanBePrefix.
+-- The in-record that `later` chooses from these: `last`, if given, and the face's in-records under
+-- the row's keys that a Data answers. A Data answers the keys with CanBePrefix and, if `is_own` is
+-- true, also the keys without CanBePrefix.
 abbrev pub last_in : Bool → ℕ → Option InRecord → Row → Option InRecord
 last_in is_own face last row =
     last_prefix face (if is_own then last_exact face last row else last) row
