@@ -57,7 +57,7 @@ get-changed (Removed key) k f r =
     elim (same_key k key) as (λ b. get (cond b no_records r).in_records f ≡ cond b None (get r.in_records f)) [ true ↦ get-empty nat_cmp f | false ↦ refl ]
 get-changed (Closed face) k f r = get-remove nat_cmp_total r.in_records face f ∙ ap (λ b. cond b None (get r.in_records f)) (tie f face)
 
--- ---- the in-record of one face after all causes of a list
+-- ---- the in-record of one face after all the causes in a list
 
 pub asks_of_run : (run : List Cause) (k : PlainKey) (f : ℕ) → get (records_after_all run k).in_records f ≡ in_record_of run k f
 asks_of_run [] k f = get-empty nat_cmp f

@@ -1,4 +1,4 @@
--- The limits of tables by name.
+-- The limits of tables that map names to values.
 use Rattle.std.specs.Prelude.{◌≡◌, ℕ, ◌<◌, ◌≤◌, List, false, Option, None, Some, IsSome, length}
 use Rattle.std.specs.FinMap as map
 use Rattle.ndn_tlv.specs.Element.{Field}

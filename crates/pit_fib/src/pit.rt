@@ -484,9 +484,9 @@ fn entry_of<'a>(rows: &'a TimedMap<Row>, key: Key<'_>) -> Option<&'a Entry>
     rows.get(key.name)?.get(Flags::of(key))
 }
 
-/// Adds faces to `faces`: the faces that have an in-record under those keys of the row that a Data
-/// answers. Adds no face if there is no row. Once `faces` has 64 faces, no other face is added. If
-/// the name of the row is the Data's name or full name (`is_own`), the Data answers all keys of the
+/// Adds to `faces` each face that has an in-record under a key of the row, if a Data answers this
+/// key. Adds no face if there is no row. Once `faces` has 64 faces, no other face is added. If the
+/// name of the row is the Data's name or full name (`is_own`), the Data answers all keys of the
 /// row. If the name of the row is a proper prefix of the Data's name, the Data answers only the
 /// keys with CanBePrefix.
 fn add_of(row: Option<&Row>, is_own: bool, faces: &mut Faces)

@@ -108,7 +108,7 @@ impl Revision for Removal {
     }
 }
 
-/// A revision that removes the entries under those keys of one name that a Data answers. If the
+/// A revision of the entries of one name: it removes each entry whose key a Data answers. If the
 /// name is the Data's name or full name (`is_own`), the Data answers all keys of the name. If the
 /// name is a proper prefix of the Data's name, the Data answers only the keys with CanBePrefix.
 #[derive(Drop)]

@@ -74,9 +74,9 @@ impl Row {
         Some(Row::from_slots(slots))
     }
 
-    /// Adds faces to `faces`: the faces that have an in-record under those keys of this name that a
-    /// Data answers. Once `faces` has 64 faces, no other face is added. If the name is the Data's
-    /// name or full name (`is_own`), the Data answers all keys of the name. If the name is a proper
+    /// Adds to `faces` each face that has an in-record under a key of this name, if a Data answers
+    /// this key. Once `faces` has 64 faces, no other face is added. If the name is the Data's name
+    /// or full name (`is_own`), the Data answers all keys of the name. If the name is a proper
     /// prefix of the Data's name, the Data answers only the keys with CanBePrefix.
     pub fn add_answered(&self, is_own: bool, faces: &mut Faces)
         ensures { faces.new ≡ with_answered is_own faces.old self.now }
@@ -87,11 +87,11 @@ impl Row {
     }
 
     /// Returns the in-record with the latest deadline among the in-record `last` (if any) and the
-    /// face's in-records under those keys of this name that a Data answers. Among in-records with
-    /// the same deadline, the in-record under the greatest key takes precedence, and `last` has the
-    /// lowest precedence. If the name is the Data's name or full name (`is_own`), the Data answers
-    /// all keys of the name. If the name is a proper prefix of the Data's name, the Data answers
-    /// only the keys with CanBePrefix.
+    /// face's in-records under keys of this name. Only keys that a Data answers count. Among
+    /// in-records with the same deadline, the in-record under the greatest key takes precedence,
+    /// and `last` has the lowest precedence. If the name is the Data's name or full name
+    /// (`is_own`), the Data answers all keys of the name. If the name is a proper prefix of the
+    /// Data's name, the Data answers only the keys with CanBePrefix.
     pub fn last_of<'a>(
         &'a self,
         is_own: bool,
