@@ -22,7 +22,7 @@ lack_more depth entries i entry lt is e h =
     let grown : take (i + 1) entries ≡ take i entries ++ entry ∷ [] = take_more entries i entry lt ∙ ap (λ (x : Entry). take i entries ++ x ∷ []) (sym is) in
     subst (Lack depth) (sym grown) (lack_both depth (take i entries) entry h e)
 
--- the result of `parted` for a list with several more entries in front, none of them at this depth
+-- the result of `parted` for `front ++ rest`, if no entry of `front` is at this depth
 abbrev pub following : ℕ → List PlainEntry → List Entry → List PlainEntry × List Block
 following depth front rest = (front ++ (parted depth (map entry_of rest)).0, (parted depth (map entry_of rest)).1)
 

@@ -71,7 +71,7 @@ pub fn read_template(
     }
 }
 
-/// Finds the first key that is `word`, and checks that the value of this key is the word `name`.
+/// Finds the first key that is `word`, and checks that the value of this key is the text "name".
 /// Returns `None` if no key is `word`.
 #[tactic(auto, unfolding(crate::specs::Values::value_in))]
 pub fn read_name_word(keys: Keys<'_>, word: &str) -> Found<Option<()>>

@@ -109,8 +109,9 @@ record IsRest (atoms : List PlainAtom) (written : ℕ) (groups : List (ℕ × �
   few_atoms : written + length (flat_map item_atoms items) ≤ 32
   few_groups : length pattern.groups ≤ 9
 
--- `text` begins inside a group, and `first` atoms come before this group. `text` consists of the
--- remaining atoms of the group, the closing parenthesis, and a text that completes the pattern.
+-- `text` begins inside a group, and `first` is the number of atoms before this group. `text`
+-- consists of the remaining atoms of the group, the closing parenthesis, and a text that completes
+-- the pattern.
 abbrev IsInGroup : ℕ → List PlainAtom → ℕ → List (ℕ × ℕ) → List ℕ → PlainPattern → Type 0
 IsInGroup first atoms written groups text pattern =
     (inner rest : List ℕ) × (more : List PlainAtom) × (text ≡ inner ++ (41 ∷ rest)) × AreAtoms inner more

@@ -102,9 +102,9 @@ none_there atoms cs place none low = of_test (first_count atoms (drop place cs))
     of_test None e = refl
     of_test (Some k) e = absurd cc
 
--- if `places` are the positions of the passing components of `cs`, and `next` also has the position
--- of the next component `c` exactly if `c` passes, then `next` are the positions of the passing
--- components of `cs ++ c ∷ []`
+-- let `places` be the positions of the passing components of `cs`; if `next` has the same
+-- positions, and also has the position of the component `c` after `cs` exactly if `c` passes, then
+-- `next` are the positions of the passing components of `cs ++ c ∷ []`
 pub pushed : (test : PlainTest) (cs : List Field) (c : Field) (places next place : ℕ) → ArePassed test cs places → length cs ≡ place → has_place next place ≡ passes test c
     → ((other : ℕ) → other ≢ place → has_place next other ≡ has_place places other) → ArePassed test (cs ++ c ∷ []) next
 pushed test cs c places next place are len there others p =
