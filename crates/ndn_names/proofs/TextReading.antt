@@ -81,9 +81,8 @@ plain_found a text octets e sign slash found =
     let b = before_found a (octets_in text) octets (sym (octets_plain a text sign) ∙ e) in
     subst (StandsFor (a ∷ text)) (sym b.2) (a ∷ [], text, refl, inl (refl, sign, slash), found b.0 b.1)
 
--- Let a text begin with an escape. If the text after the escape stands for the octets that are read
--- from this remaining text (`StandsFor`), then the whole text stands for the octets that are read
--- from the whole text.
+-- Let a text be an escape and a rest. If the rest stands for the octets that are read from the rest
+-- (`StandsFor`), then the whole text stands for the octets that are read from the whole text.
 escaped_found : (a b c : ℕ) (text octets : List ℕ) → octets_in (a ∷ b ∷ c ∷ text) ≡ Ok octets → a ≡ 37
     → ((others : List ℕ) → octets_in text ≡ Ok others → StandsFor text others) → StandsFor (a ∷ b ∷ c ∷ text) octets
 escaped_found a b c text octets e is found =

@@ -179,8 +179,9 @@ signature_mark : IsMark Never 46 []
 signature_mark = record { tail = λ k loose. refl; apart = λ k never. absurd never; near = λ near k never. never }
 
 -- The reader of an Interest awaits the ApplicationParameters, then the InterestSignatureInfo, and
--- then the InterestSignatureValue. `p` is the input from the ApplicationParameters on, once they
--- have been read. `v` is the input from the InterestSignatureValue on, once it has been read.
+-- then the InterestSignatureValue. Once the ApplicationParameters have been read, `p` is the input
+-- from the start of this element on. Once the InterestSignatureValue has been read, `v` is the
+-- input from the start of this element on.
 abbrev pub InterestMark : List ℕ → FieldReader → Option (List ℕ) → Option PlainSignatureInfo → Option (List ℕ) → List ℕ → List ℕ → Type 0
 InterestMark text fields None None None p v = Awaits IsFront 36 (44 ∷ 46 ∷ []) text fields
 InterestMark text fields None None (Some value) p v = ⊥

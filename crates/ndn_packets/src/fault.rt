@@ -14,8 +14,8 @@ use thiserror::Error;
 /// the elements of this value is reported. A missing SignatureType is reported after all other
 /// faults of the same value. If several faults of one header field of a link packet apply, `Tlv` is
 /// reported before `LpField`, and `LpField` before a fault in the field's value. In the value of a
-/// Nack, the first fault among the elements of this value is reported. In the value of a Fragment,
-/// the first fault of the packet is reported, beginning with the outer element of the packet.
+/// Nack, the first fault among the elements of this value is reported. The packet in the value of a
+/// Fragment has the same order of faults as any packet, from a fault of the outer element on.
 #[derive(Clone, Copy, Debug, PartialEq, Eq, Error)]
 pub enum PacketFault {
     /// An element cannot be read, whether or not this crate knows its type.
