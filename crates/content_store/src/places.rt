@@ -147,9 +147,9 @@ fn joined(alloc: Global, first: &[u32], second: &[u32]) -> Result<Vec<u32>, Memo
 }
 
 /// Removes the block with index `index` if it is empty. Otherwise joins this block with the next
-/// block, if this block has fewer than `MAX_BLOCK` slab indexes, and the length of the next block
-/// plus half the length of this block (rounded down) is at most half of `MAX_BLOCK`. Joins nothing
-/// if memory runs out.
+/// block if two conditions hold: this block has fewer than `MAX_BLOCK` slab indexes, and the next
+/// block's length plus half of this block's length (rounded down) is at most half of `MAX_BLOCK`.
+/// Joins nothing if memory runs out.
 fn join(alloc: Global, blocks: &mut Vec<Block>, index: usize)
     requires { index < length blocks.old.items }
     ensures { flat blocks.new.items ≡ flat blocks.old.items }
