@@ -32,12 +32,12 @@ pub trait Moments: Drop {
 ///
 /// The peers' endpoints have the faces 1, 2 and so on. Each of these faces is opened in a turn of
 /// its own before any datagram is received. An unknown endpoint that sends a datagram is stored as
-/// a client, unless 64 endpoints are known. A Far face with the next number is opened for a client
-/// before the client's first packet arrives. A datagram from an endpoint that is not stored gives
-/// two arrivals: the opening of a face and the packet. These two arrivals have a face number that
-/// no open face has: 65 if no face has closed. A node with 64 faces does not open this face. The
-/// number of an opened face is never used for another face, unless it is the greatest u64. The
-/// ports never return `End`.
+/// a client, unless 64 endpoints are known. For a new client, the ports first return the opening of
+/// a Far face with the next number, and then the client's first packet. A datagram from an endpoint
+/// that is not stored gives two arrivals: the opening of a face and the packet. These two have a
+/// face number that no open face has: 65 if no face has closed. A node with 64 faces does not open
+/// this face. The number of an opened face is never used for another face, unless it is the
+/// greatest u64. The ports never return `End`.
 ///
 /// After a call of `close_after`, the faces of idle clients close, and the face of a client may
 /// close to make room for an unknown endpoint. A peer's face never closes. After a call of
