@@ -16,11 +16,11 @@ use ndn_tlv::Memory;
 use std::alloc::Global;
 
 /// Explains the lines of a text one by one, and appends the result. A packet is replaced by its
-/// explanation or, if the packet is malformed, by the reason, and the text before the packet
-/// becomes a separate line. A line without a packet stays as it is, and empty lines are omitted. A
-/// packet is one or more octets in hexadecimal, either alone on a line or after the last space of a
-/// line that begins with `>`. The signature of each packet is checked if there are keys. On
-/// `Memory`, some of the lines may have been appended.
+/// explanation or, if the packet is malformed, by the reason. The text before the packet becomes a
+/// separate line. A line without a packet stays as it is, and empty lines are omitted. A packet is
+/// one or more octets in hexadecimal, either alone on a line or after the last space of a line that
+/// begins with `>`. The signature of each packet is checked if there are keys. On `Memory`, some of
+/// the lines may have been appended.
 pub fn put_input(
     alloc: Global,
     text: &mut Vec<u8>,

@@ -85,7 +85,7 @@ asked_of action p = record {
 
 -- ---- a repository's commands
 
--- the name of a repository's command: the repository's prefix, and the verb
+-- the name of a repository's command, without parameters: the repository's prefix, and the verb
 abbrev pub repository_name : List Field → Verb → List Field
 repository_name prefix verb = prefix ++ (GENERIC, (verb_row verb).word) ∷ []
 
