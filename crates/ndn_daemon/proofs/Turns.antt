@@ -103,8 +103,9 @@ served_until old new before after turns (Ok done) h = (after, h)
 served_until old new before after turns (Err why) h = tt
 
 -- Let a journal be replayed on the node `old`: the replay gives the node `begun` and keeps the
--- octets `kept`. If a success of `r` implies that `begun` served its turns at ports whose journal
--- has the octets `kept`, then a success of `r` implies `TakesLaterTurns`.
+-- octets `kept`. Let the journal of the ports have the octets `kept` before the first turn. If a
+-- success of `r` implies that `begun` served its turns at these ports, then a success of `r` also
+-- implies `TakesLaterTurns`.
 pub later_turns : (unread kept : Option (List ℕ)) (turns : ℕ) (old begun new : NodeState) (before : Shown) (r : Result (Unit {0}) Fault) → (done : Replayed) × ReplaysJournal unread kept old begun done
     → before.journal ≡ kept → OnOk r ((after : Shown) × ServesTurns begun new before after turns) → OnOk r (TakesLaterTurns unread turns old new)
 later_turns unread kept turns old begun new before (Ok done) replayed same h = record {
