@@ -73,7 +73,8 @@ fn keys_around_a_block(rt: HostRuntime) {
     check_rows(&rt, rt.alloc(), rows, tag);
 }
 
-/// Shows whether `tags_equal` returns true for a value of any length and a tag of 32 octets.
+/// Shows whether `tags_equal` returns true for the value and the tag in `input`. The value may have
+/// any length, and the tag has 32 octets.
 fn is_tag(alloc: Global, input: &str) -> Option<String> {
     let (value, tag) = input.split_once(" | ")?;
     let tag = tag_in(alloc, tag)?;

@@ -155,14 +155,14 @@ fn push_line(alloc: Global, text: &mut String, line: &str) -> Option<()> {
     text.push('\n').ok()
 }
 
-/// Appends the journal line for a line of a test that stands for a packet. Appends no LF.
+/// Appends the journal line for a test's line `ask` or `data`, without an LF.
 fn push_packet(alloc: Global, text: &mut String, line: &str) -> Option<()> {
     let packet = packet_in(alloc, line)?;
     let octets = hex::encode(alloc, &packet).ok()?;
     write!(text, "in {} {} {octets}", word(line, 1), word(line, 2)).ok()
 }
 
-/// Appends the journal line for a line of a test that stands for rules. Appends no LF.
+/// Appends the journal line for a test's line `rules`, without an LF.
 fn push_rules(alloc: Global, text: &mut String, line: &str) -> Option<()> {
     let rules = hex::encode(alloc, RULES.as_bytes()).ok()?;
     let keys = hex::encode(alloc, KEYS.as_bytes()).ok()?;

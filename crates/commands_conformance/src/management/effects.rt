@@ -556,7 +556,7 @@ fn list_of_4096_routes(rt: HostRuntime) {
 }
 
 /// Adds a route so that the dataset of routes has `len` octets. Returns `true` if the dataset has
-/// this length and if its last segment has the number `last` and `last_len` octets.
+/// this length, and its last segment is segment number `last` and has `last_len` octets.
 fn is_cut(
     alloc: Global,
     station: &mut Station,
@@ -723,8 +723,8 @@ fn keeps_its_promise(station: &mut Station, name: &NameBuf) -> bool {
     added(station, name, 2) == 200 && station.hops(name.view()) == 1
 }
 
-/// Returns whether a command that was not prepared has its effect, or has no effect if memory runs
-/// out.
+/// Returns whether a command that was not prepared has its effect or, if memory runs out, has no
+/// effect.
 fn applies_or_leaves(alloc: Global, station: &mut Station) -> Option<bool> {
     let name = numbered(alloc, 1)?;
     Some(adds_or_leaves(station, &name))

@@ -196,8 +196,8 @@ fn put_turns<P: Ports>(alloc: Global, node: &mut Node, ports: &mut P, text: &mut
     }
 }
 
-/// At a port, gives a node the events of a dialogue. Returns whether the text that is printed for
-/// the node's turns is `wanted`.
+/// Lets a node handle the events of a dialogue, which a port delivers. Returns whether the text
+/// that is printed for the node's turns is `wanted`.
 pub fn prints(alloc: Global, node: &mut Node, dialogue: &str, wanted: &str) -> Option<bool> {
     let mut ports = ports_of(alloc, dialogue)?;
     let mut text = Vec::new(alloc);
