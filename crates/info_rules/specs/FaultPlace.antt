@@ -9,14 +9,14 @@ abbrev pub AreLines : ℕ → List ℕ → Type 0
 AreLines n text =
     (end_line text ≡ n + 1) × ((text ≡ []) ⊎ ((inner : List ℕ) × (text ≡ inner ++ 10 ∷ [])))
 
--- the text is a prefix of some text that spells entries
+-- the text is a prefix of some text, of any length, that spells entries
 abbrev pub BeginsSome : List ℕ → Type 0
 BeginsSome text =
     (rest : List ℕ) × (entries : List PlainEntry) × IsTree (tokens_in (text ++ rest)) entries
 
--- The text has a line with the number `line`. The text before this line is a prefix of some text
--- that spells entries. If the line ends with an LF, the text up to and including this LF is not a
--- prefix of any text that spells entries.
+-- The text has a line with the number `line`. The text before this line is a prefix of some text,
+-- of any length, that spells entries. If the line ends with an LF, the text up to and including
+-- this LF is not a prefix of any text that spells entries.
 pub record StandsAt (text : List ℕ) (line : ℕ) : Type 0 where
   pub first : 1 ≤ line
   pub last : line ≤ end_line text

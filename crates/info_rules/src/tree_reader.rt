@@ -97,9 +97,9 @@ pub fn outlines_keep_blocks()
 {}
 
 /// Law: every fault that `tree_in` returns, except `TooLarge`, is on a line of the text. The lines
-/// before the line of the fault are a prefix of some text that spells entries. If the line of the
-/// fault ends with an LF, the text up to and including this LF is not a prefix of any text that
-/// spells entries.
+/// before the line of the fault are a prefix of some text, of any length, that spells entries. If
+/// the line of the fault ends with an LF, the text up to and including this LF is not a prefix of
+/// any text that spells entries.
 pub fn faults_stand_at_their_line()
     ensures { (text : List ℕ) (fault : RulesFault) → tree_in text ≡ Err fault
         → fault.kind ≢ RulesFaultKind.TooLarge → StandsAt text fault.line }
