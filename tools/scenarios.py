@@ -121,9 +121,9 @@ class Scenario:
         self.put(f"rules {self.now} {files[0]} {files[1]}", "passed")
 
     def may_lose_its_data(self):
-        """Adds to `loses` a way in which a cache for one Data loses this Data: another Data takes its place. The lines
-        of this way do not change the version of the lists. The lines need the faces 60 and 61, and a route through face
-        60. So this method first opens these faces and adds the route. Face 1 must be open."""
+        """Adds to `loses` lines of a script after which a cache for one Data has lost this Data: another Data takes its
+        place. These lines do not change the version of the lists. The lines need the faces 60 and 61, and a route
+        through face 60. So this method first opens these faces and adds the route. Face 1 must be open."""
         self.up(60, 61)
         other = p.name("/other")
         self.route(other, 60)
