@@ -41,6 +41,16 @@ fn smallest_data(rt: HostRuntime) {
     check_rows(&rt, rt.alloc(), rows, carried);
 }
 
+/// An absent FreshnessPeriod counts as 0, in an empty MetaInfo and in one with only a ContentType.
+#[test]
+fn absent_freshness(rt: HostRuntime) {
+    let rows = "
+060e0703080141140016031b01001700 -> Data /A, fresh 0, content none, signature 0, key missing, time None, seq None, value empty
+06110703080141140318010016031b01001700 -> Data /A, fresh 0, content none, signature 0, key missing, time None, seq None, value empty
+";
+    check_rows(&rt, rt.alloc(), rows, fields);
+}
+
 #[test]
 fn refused_spellings(rt: HostRuntime) {
     let rows = "
