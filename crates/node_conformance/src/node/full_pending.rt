@@ -1,7 +1,7 @@
 //! Tests of a node that has the greatest number of pending Interests.
 
 use super::octets::hexadecimal_of;
-use super::sample_outcome;
+use super::outcome;
 use std::alloc::Global;
 use std::fmt::Write;
 
@@ -27,7 +27,7 @@ fn put_script(script: &mut String) -> Option<()> {
 fn script_outcome(alloc: Global) -> Option<String> {
     let mut script = String::new(alloc);
     put_script(&mut script)?;
-    sample_outcome(alloc, script.as_str())
+    outcome(alloc, script.as_str())
 }
 
 /// Returns whether an outcome ends with the expected answers to the last three Interests.

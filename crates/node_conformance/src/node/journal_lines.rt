@@ -2,7 +2,7 @@
 //! `docs/SCRIPTS.md` has the format of the lines.
 
 use super::journalled::MemoryFile;
-use super::ports::on_node;
+use super::on_node;
 use journal::{
     Coming, Entry, ReplayFault, Replayed, append_event, are_last_rules, last_rules, line_of, replay,
 };

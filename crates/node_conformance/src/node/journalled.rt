@@ -1,13 +1,24 @@
 //! Tests of a node that keeps a journal, and of a node that continues from a journal.
 ghost use Rattle.std.specs.Prelude.{None};
 
-use super::ports::{on_node, ports_of};
-use super::repository_life::FROM_INSERT_TO_DELETE;
-use super::spelled;
+use super::ports::ports_of;
+use super::{on_node, spelled};
 use journal::{FileFault, JournalFile, Replayed, replay};
 use node_core::{Node, Outbox};
 use node_ports::{JournalledPorts, MemoryPorts, Ports, ServeFault, serve};
 use std::alloc::Global;
+
+/// Faces open, a route is added, and a Data is inserted into the repository, asked for and deleted.
+const FROM_INSERT_TO_DELETE: &str = "up 1 local 1000000
+up 2 far 1000000
+in 1 1000000 ADD_FIRST
+in 1 1000000 INSERT
+in 2 1000000 D_A
+in 1 1000000 INSERT_AGAIN
+in 1 1000000 INTEREST
+in 1 1000000 DELETE
+in 1 1000000 CHECK
+";
 
 /// A file in memory that accepts `left` more lines. A call of `append` for a further line writes
 /// only half of the line's octets, and fails.
@@ -34,13 +45,13 @@ impl JournalFile for MemoryFile {
     }
 }
 
-/// Serves a node with the events of a dialogue and a journal file that accepts `lines` lines.
+/// Serves a node with the events of a script and a journal file that accepts `lines` lines.
 /// Returns the ports if serving ends as `fault` says, and otherwise `None`. If `fault` is `None`,
 /// serving must end without a fault.
 fn served(
     alloc: Global,
     node: &mut Node,
-    dialogue: &str,
+    script: &str,
     lines: u64,
     fault: Option<ServeFault>,
 ) -> Option<JournalledPorts<MemoryPorts, MemoryFile>> {
@@ -48,7 +59,7 @@ fn served(
         octets: Vec::new(alloc),
         left: lines,
     };
-    let mut ports = JournalledPorts::new(alloc, ports_of(alloc, dialogue)?, file);
+    let mut ports = JournalledPorts::new(alloc, ports_of(alloc, script)?, file);
     let end = serve(alloc, node, &mut ports, 1000);
     if end.err() == fault {
         Some(ports)
@@ -57,23 +68,23 @@ fn served(
     }
 }
 
-/// Plays the events of a dialogue on a node. Returns whether the node's journal then consists of
+/// Plays the events of a script on a node. Returns whether the node's journal then consists of
 /// `lines`. In `lines`, words may stand for packets.
-fn keeps_journal(alloc: Global, node: &mut Node, dialogue: &str, lines: &str) -> Option<bool> {
+fn keeps_journal(alloc: Global, node: &mut Node, script: &str, lines: &str) -> Option<bool> {
     let wanted = spelled(alloc, lines)?;
-    let ports = served(alloc, node, dialogue, 1000, None)?;
+    let ports = served(alloc, node, script, 1000, None)?;
     Some(ports.file().octets.as_slice() == wanted.as_bytes())
 }
 
-/// Returns whether a new node's journal of the dialogue consists of these lines.
-fn has_journal(alloc: Global, dialogue: &str, lines: &str) -> Option<bool> {
+/// Returns whether a new node's journal of the script consists of these lines.
+fn has_journal(alloc: Global, script: &str, lines: &str) -> Option<bool> {
     on_node(
         alloc,
-        &|alloc, node| keeps_journal(alloc, node, dialogue, lines),
+        &|alloc, node| keeps_journal(alloc, node, script, lines),
     )
 }
 
-/// The journal of the dialogue `FROM_INSERT_TO_DELETE`. The journal has a line for each event
+/// The journal of `FROM_INSERT_TO_DELETE`. The journal has a line for each event
 /// except the Interest that is not a command.
 const JOURNAL_OF_A_LIFE: &str = "up 1 local 1000000
 up 2 far 1000000
@@ -90,25 +101,17 @@ fn journal_of_a_life(rt: HostRuntime) {
     assert!(rt; same == Some(true));
 }
 
-/// In this dialogue, only the first event and the last event are journalled. Each of these two
+/// In this script, only the first event and the last event are journalled. Each of these two
 /// events opens a face. The last event has an earlier time than all other events. Between the first
 /// and the last event come the opening of an open face, the closing of a face that is not open, a
 /// denied command, a Data that the repository does not want, and a tick.
-const MOSTLY_DENIED: &str = "
-up 1 local 1000000
-1 passed
+const MOSTLY_DENIED: &str = "up 1 local 1000000
 up 1 far 1000001
-2 dropped FaceOpen
 down 2 1000002
-3 dropped NoFace
 in 1 1000000 WRONG_TAG
-4 denied interest Tag ops
 in 1 1000000 D_A
-5 data any-data
 tick 1000005
-6 passed
 up 3 far 900000
-7 passed
 ";
 
 #[test]
@@ -148,11 +151,9 @@ in 1 1000000 ADD_FIRST
 in 1 1000000 INSERT
 in 2 1000000 D_A";
 
-/// A dialogue after a restart. The node receives an Interest for the stored Data, and two commands
+/// What comes after a restart. The node receives an Interest for the stored Data, and two commands
 /// that were carried out before the restart.
-const AFTER_A_RESTART: &str = "
-in 1 1000000 INTEREST
-> 1 D_A
+const AFTER_A_RESTART: &str = "in 1 1000000 INTEREST
 in 1 1000000 INSERT
 in 1 1000000 ADD_FIRST
 ";

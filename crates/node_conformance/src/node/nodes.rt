@@ -1,12 +1,11 @@
 use super::octets::octets_of;
-use super::ports::on_node;
-use super::rules_of;
+use super::{on_node, rules};
 use hmac_keys::KeyBook;
 use info_rules::Rules;
 use ndn_names::NameBuf;
 use node_core::{Event, Node, NodeFault, NodeParts, Outbox, Scope, Verdict};
 use std::alloc::Global;
-use test_support::{SAMPLE, first_wrong};
+use test_support::first_wrong;
 
 /// Each row is a repository's prefix and a cache's capacity, followed by the result of making a
 /// node with this prefix and this capacity.
@@ -23,9 +22,8 @@ const PARTS: &str = "
 /// Returns the parts of a node whose repository has this prefix and whose cache has this capacity.
 fn parts_at(alloc: Global, prefix: &str, cache: u32) -> Option<NodeParts> {
     let repo = NameBuf::from_uri(alloc, prefix).ok()?;
-    let rules = rules_of(alloc, SAMPLE)?;
     Some(NodeParts {
-        rules,
+        rules: rules(alloc)?,
         keys: KeyBook::new(alloc),
         repo,
         cache,

@@ -1,32 +1,31 @@
-use super::{on_node_under, replies, script_of, spelled};
+use super::{on_node, spelled};
 use hmac_keys::KeyBook;
-use info_rules::Rules;
-use node_core::{Node, Outbox, OwnedEvent, Scope, put_refused, put_sends, put_verdict, read_rules};
+use node_core::{Node, Outbox, Scope, put_refused, put_sends, put_verdict, read_rules};
 use node_ports::{
     FileOctets, MemoryPorts, OwnedArrival, Ports, Renewal, ServeFault, Served, Turn, serve,
     serve_turn,
 };
 use std::alloc::Global;
-use test_support::SAMPLE;
 
-/// A dialogue in which two faces open, an Interest without a route comes, and a Data with a wrong
-/// signature comes twice.
-pub const FIRST_PATH: &str = "
-up 1 local 0
-1 passed
+/// Two faces open, an Interest without a route comes, and a Data with a wrong signature comes twice.
+pub const FIRST_PATH: &str = "up 1 local 0
 up 2 far 0
-2 passed
-in 1 1000 INTEREST
-3 passed
-> 1 NO_ROUTE
+in 1 1000 050b07030801410a0401020304
 in 2 1050 060f070308014115017816031b01001700
-4 denied data Tag any-data
 in 2 1060 060f070308014115017816031b01001700
+";
+
+/// The answers to `FIRST_PATH`.
+const FIRST_ANSWERS: &str = "1 passed
+2 passed
+3 passed
+> 1 6418fd032005fd03210196500d050b07030801410a0401020304
+4 denied data Tag any-data
 5 denied data Tag any-data
 ";
 
 /// Returns the word at index `i` of a line, counted from 0, or `""` if the line has no such word.
-pub fn word(line: &str, i: usize) -> &str {
+fn word(line: &str, i: usize) -> &str {
     line.split(' ').nth(i).unwrap_or("")
 }
 
@@ -46,49 +45,6 @@ fn scope_of(word: &str) -> Scope {
         Scope::Local
     } else {
         Scope::Far
-    }
-}
-
-/// Returns the rules that a word gives in hexadecimal.
-fn rules_in(alloc: Global, word: &str) -> Option<Rules> {
-    let octets = packet_of(alloc, word)?;
-    read_rules(alloc, &octets).ok()
-}
-
-/// Returns the keys that a word gives in hexadecimal.
-fn keys_in(alloc: Global, word: &str) -> Option<KeyBook> {
-    let octets = packet_of(alloc, word)?;
-    KeyBook::read_octets(alloc, &octets).ok()
-}
-
-/// Returns the event `NewRules` that a line of a script spells.
-fn new_rules_of(alloc: Global, line: &str, now: u64) -> Option<OwnedEvent> {
-    let rules = rules_in(alloc, word(line, 2))?;
-    let keys = keys_in(alloc, word(line, 3))?;
-    Some(OwnedEvent::NewRules { rules, keys, now })
-}
-
-/// Returns the event that a line of a script spells, or `None` if a part of the line cannot be
-/// read.
-pub fn event_of(alloc: Global, line: &str) -> Option<OwnedEvent> {
-    let face = number(line, 1)?;
-    match word(line, 0) {
-        "up" => Some(OwnedEvent::FaceUp {
-            face,
-            scope: scope_of(word(line, 2)),
-            now: number(line, 3)?,
-        }),
-        "down" => Some(OwnedEvent::FaceDown {
-            face,
-            now: number(line, 2)?,
-        }),
-        "tick" => Some(OwnedEvent::Tick { now: face }),
-        "rules" => new_rules_of(alloc, line, face),
-        _ => Some(OwnedEvent::Packet {
-            face,
-            now: number(line, 2)?,
-            octets: packet_of(alloc, word(line, 3))?,
-        }),
     }
 }
 
@@ -149,26 +105,11 @@ fn arrivals_of(alloc: Global, script: &str) -> Option<Vec<OwnedArrival>> {
     Some(arrivals)
 }
 
-/// Returns the script of a dialogue, with all packets and files in hexadecimal. In the dialogue,
-/// words may stand for packets and files.
-fn spelled_script(alloc: Global, dialogue: &str) -> Option<String> {
-    let dialogue = spelled(alloc, dialogue)?;
-    script_of(alloc, dialogue.as_str())
-}
-
-/// Returns a port that delivers the events of a dialogue.
-pub fn ports_of(alloc: Global, dialogue: &str) -> Option<MemoryPorts> {
-    let script = spelled_script(alloc, dialogue)?;
+/// Returns a port that delivers the events of a script, in which words may stand for packets.
+pub fn ports_of(alloc: Global, script: &str) -> Option<MemoryPorts> {
+    let script = spelled(alloc, script)?;
     let arrivals = arrivals_of(alloc, script.as_str())?;
     Some(MemoryPorts::new(alloc, arrivals))
-}
-
-/// Returns what `play` returns for a new node under the sample rules, or `None` if the node cannot
-/// be created.
-pub fn on_node<F: Fn(Global, &mut Node) -> Option<bool>>(alloc: Global, play: &F) -> Option<bool>
-    requires { F.IsAlwaysCallable play.now }
-{
-    on_node_under(alloc, SAMPLE, 1024, play)
 }
 
 /// Takes one turn and appends the text that is printed for it. `outbox` receives the packets that
@@ -196,10 +137,10 @@ fn put_turns<P: Ports>(alloc: Global, node: &mut Node, ports: &mut P, text: &mut
     }
 }
 
-/// Lets a node handle the events of a dialogue, which a port delivers. Returns whether the text
-/// that is printed for the node's turns is `wanted`.
-pub fn prints(alloc: Global, node: &mut Node, dialogue: &str, wanted: &str) -> Option<bool> {
-    let mut ports = ports_of(alloc, dialogue)?;
+/// Lets a node handle the events of a script, which a port delivers. Returns whether the text that
+/// is printed for the node's turns is `wanted`.
+fn prints(alloc: Global, node: &mut Node, script: &str, wanted: &str) -> Option<bool> {
+    let mut ports = ports_of(alloc, script)?;
     let mut text = Vec::new(alloc);
     put_turns(alloc, node, &mut ports, &mut text);
     Some(text.as_slice() == wanted.as_bytes())
@@ -313,9 +254,17 @@ fn served_turns_after_a_failed_call(rt: HostRuntime) {
     assert!(rt; goes_on(rt.alloc(), 6, 5, 0) == Some(true));
 }
 
+/// Returns whether a new node at a port gives the answers to `FIRST_PATH`.
+fn takes_first_path(alloc: Global) -> Option<bool> {
+    on_node(
+        alloc,
+        &|alloc, node| prints(alloc, node, FIRST_PATH, FIRST_ANSWERS),
+    )
+}
+
 #[test]
-fn first_path(rt: HostRuntime) {
-    replies(&rt, FIRST_PATH);
+fn first_path_at_a_port(rt: HostRuntime) {
+    assert!(rt; takes_first_path(rt.alloc()) == Some(true));
 }
 
 /// If the step for an event runs out of memory, the number of the event and the word `memory` are

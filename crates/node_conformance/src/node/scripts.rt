@@ -1,4 +1,4 @@
-use super::{replies, sample_outcome};
+use super::outcome;
 use std::alloc::Global;
 use test_support::first_wrong;
 
@@ -54,7 +54,7 @@ up 1 local 0|up 2 far 0|in 1|tick 7| -> 1 passed|2 passed|Err(BadLine(3))
 /// Returns a text with the output of a script and how the script ends. In this text, `|` stands for
 /// each LF.
 fn shown_outcome(alloc: Global, script: &str) -> Option<String> {
-    let came = sample_outcome(alloc, script)?;
+    let came = outcome(alloc, script)?;
     came.as_str().replace(alloc, '\n', "|").ok()
 }
 
@@ -104,19 +104,4 @@ fn longest_line(rt: HostRuntime) {
     assert!(rt; line_comes_to(rt.alloc(), 20_000, "", "Ok(())"));
     assert!(rt; line_comes_to(rt.alloc(), 20_000, "|tick 1", "1 passed|Ok(())"));
     assert!(rt; line_comes_to(rt.alloc(), 20_001, "", "Err(BadLine(1))"));
-}
-
-const HEXADECIMAL_OF_BOTH_CASES: &str = "
-up 1 local 0
-1 passed
-in 1 1000 050B07030801410A0401020304
-2 passed
-> 1 NO_ROUTE
-in 1 1000 060F070308014115017816031b01001700
-3 denied data Tag any-data
-";
-
-#[test]
-fn hexadecimal_of_both_cases(rt: HostRuntime) {
-    replies(&rt, HEXADECIMAL_OF_BOTH_CASES);
 }

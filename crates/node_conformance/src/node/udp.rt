@@ -1,7 +1,7 @@
 //! A node at a UDP port of this machine, and the sockets that exchange packets with the node.
 
 use super::octets::octets_of;
-use super::ports::on_node;
+use super::on_node;
 use ndn_packets::PacketFault;
 use node_core::{DropReason, Node, Outbox, Scope, Verdict};
 use node_ports::{

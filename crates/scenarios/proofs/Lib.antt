@@ -1,0 +1,3 @@
+mod Meanings
+mod Differences
+mod Reports

@@ -1,0 +1,16 @@
+use Rattle.std.proofs.Common.{◌∙◌, sym, arith}
+use Rattle.scenarios.proofs.Differences.{BeginAlike-line, Differ-at_end, equal_lines, unequal}
+use Rattle.scenarios.proofs.differ.first_difference.Goals as goal
+
+pub loop-left-preserved : goal.loop-left-preserved
+loop-left-preserved c =
+    BeginAlike-line _ _ c.loop-left.left.now c.loop-left.right.now c.first_line.result.0.now c.first_line-in-loop-left.result.0.now _ _
+    c.loop-left.invariant c.first_line.ensures.parts c.first_line-in-loop-left.ensures.parts
+    (equal_lines _ _ (sym c.ne.ensures ∙ c.if-ne.false))
+
+pub returns-clause-different : goal.returns-clause-different
+returns-clause-different c =
+    Differ-at_end _ _ c.loop-left.left.now c.loop-left.right.now _ c.first_line-2.result.1.now
+    c.loop-left.invariant (grind (arith, c.is_empty.ensures, c.loop-left-test.false))
+    (unequal _ _ _ c.eq.ensures c.if-eq.false)
+    c.first_line-2.ensures.parts c.first_line-2.ensures.progress

@@ -1,0 +1,5 @@
+pub mod Words
+pub mod Lines
+pub mod Differ
+pub mod Outcome
+pub mod Report

@@ -1,0 +1,35 @@
+-- The answers that a scenario's script has on a new node.
+use Rattle.std.specs.Prelude.{◌≡◌, ◌⊎◌, ℕ, List, ◌++◌, codes}
+use Rattle.std.specs.Fmt.{decimal}
+use Rattle.hmac_keys.specs.KeyFile.{NamedKey}
+use Rattle.hmac_keys.specs.KeyReading.{AreKeys}
+use Rattle.info_rules.specs.Rule.{PlainRule}
+use Rattle.ndn_names.specs.ReadsAs.{ReadsAs}
+use Rattle.ndn_tlv.specs.Element.{Field}
+use Rattle.forwarder.specs.Event.{PlainEvent}
+use Rattle.forwarder.specs.Node.{NodeState}
+use Rattle.forwarder.specs.Parts.{first_node}
+use Rattle.node_core.specs.Files.{AreRules}
+use Rattle.node_core.specs.Script.{IsScript, IsBadAt, IsTextOfRun}
+use Rattle.scenarios.specs.declared.scenario.Scenario.{Scenario}
+
+-- the line for a script whose line `number` is its first bad line
+abbrev pub bad_line : ℕ → List ℕ
+bad_line number = codes "! script:" ++ (decimal number ++ codes ": bad line\n")
+
+-- The answers are those of the node to all events of the script, or, if the script has a bad line,
+-- those to the events before it, and then the line for the bad line.
+abbrev pub AreAnswers : NodeState → List ℕ → List ℕ → Type 0
+AreAnswers node script answers =
+    ((events : List PlainEvent) × IsScript script events × IsTextOfRun node events answers)
+    ⊎ ((number : ℕ) × (events : List PlainEvent) × (text : List ℕ) × IsBadAt script number events
+    × IsTextOfRun node events text × (answers ≡ text ++ bad_line number))
+
+-- the answers of a new node with the rules, keys, prefix and capacity of the scenario to the
+-- scenario's script
+abbrev pub AreAnswersTo : Scenario → List ℕ → Type 0
+AreAnswersTo scenario answers =
+    (rules : List PlainRule) × (keys : List NamedKey) × (repo : List Field)
+    × AreRules scenario.rules.items rules × AreKeys scenario.keys.items keys
+    × ReadsAs scenario.repo.items repo
+    × AreAnswers (first_node rules keys repo scenario.cache) scenario.script.items answers
