@@ -1,3 +1,4 @@
-mod Meanings
+mod Answering
 mod Differences
+mod Meanings
 mod Reports

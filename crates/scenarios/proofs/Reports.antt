@@ -13,19 +13,29 @@ pub AreReported-last : (xs : List Scenario) (x : Scenario) (text line : List ℕ
     → AreReported xs text passed differ → Reported x line ok
     → AreReported (xs ++ (x ∷ [])) (text ++ line) (passed + cond ok 1 0) (differ + cond ok 0 1)
 AreReported-last [] x text line passed differ ok (none, no_passed, no_differ) last = (
-    line, [], ok, 0, 0, last,
-    ap (λ l. l ++ line) none ∙ sym (append-nil line),
-    (refl, refl, refl),
-    ap (λ n. n + cond ok 1 0) no_passed ∙ omega arith,
-    ap (λ n. n + cond ok 0 1) no_differ ∙ omega arith,
-  )
+  line,
+  [],
+  ok,
+  0,
+  0,
+  last,
+  ap (λ l. l ++ line) none ∙ sym (append-nil line),
+  (refl, refl, refl),
+  ap (λ n. n + cond ok 1 0) no_passed ∙ omega arith,
+  ap (λ n. n + cond ok 0 1) no_differ ∙ omega arith,
+)
 AreReported-last (y ∷ xs) x text line passed differ ok (first, rest, is_passed, others, more, reported, parts, are, counted, also) last = (
-    first, rest ++ line, is_passed, others + cond ok 1 0, more + cond ok 0 1, reported,
-    ap (λ l. l ++ line) parts ∙ append_assoc first rest line,
-    AreReported-last xs x rest line others more ok are last,
-    omega (arith, counted),
-    omega (arith, also),
-  )
+  first,
+  rest ++ line,
+  is_passed,
+  others + cond ok 1 0,
+  more + cond ok 0 1,
+  reported,
+  ap (λ l. l ++ line) parts ∙ append_assoc first rest line,
+  AreReported-last xs x rest line others more ok are last,
+  omega (arith, counted),
+  omega (arith, also),
+)
 
 total : (passed differ index : ℕ) (ok : Bool) → passed + differ ≡ index
     → (passed + cond ok 1 0) + (differ + cond ok 0 1) ≡ index + 1
@@ -55,9 +65,11 @@ State-next xs index x old now new passed differ more others ok within item (coun
     ap (λ y. take index xs ++ (y ∷ [])) item ∙ sym (take_more xs index x within) in
     let here : AreReported (take (index + 1) xs) (lines ++ line) (passed + cond ok 1 0) (differ + cond ok 0 1) =
     subst (λ (ys : List Scenario). AreReported ys (lines ++ line) (passed + cond ok 1 0) (differ + cond ok 0 1)) longer all in (
-    ap (λ n. n + others) passes ∙ ap (λ n. (passed + cond ok 1 0) + n) differs ∙ total passed differ index ok counted,
-    (lines ++ line,
-    subst (λ (n : ℕ). AreReported (take (index + 1) xs) (lines ++ line) n others) (sym passes)
-    (subst (λ (n : ℕ). AreReported (take (index + 1) xs) (lines ++ line) (passed + cond ok 1 0) n) (sym differs) here),
-    appended ∙ ap (λ l. l ++ line) grown ∙ append_assoc old lines line),
-  )
+      ap (λ n. n + others) passes ∙ ap (λ n. (passed + cond ok 1 0) + n) differs ∙ total passed differ index ok counted,
+      (
+        lines ++ line,
+        subst (λ (n : ℕ). AreReported (take (index + 1) xs) (lines ++ line) n others) (sym passes)
+            (subst (λ (n : ℕ). AreReported (take (index + 1) xs) (lines ++ line) (passed + cond ok 1 0) n) (sym differs) here),
+        appended ∙ ap (λ l. l ++ line) grown ∙ append_assoc old lines line,
+      ),
+    )
