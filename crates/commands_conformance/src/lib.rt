@@ -1,10 +1,8 @@
-//! Tests of commands that change routes, strategies and the cache. Also tests of the repository: of
-//! its commands, and of the Data that it stores and serves.
+//! Tests of commands and of the repository that no scenario shows: full tables, names that no node
+//! reads as a command, segments, and random calls of the repository.
 #![tactic(auto)]
 
 #[cfg(test)]
 mod management;
 #[cfg(test)]
 mod repository;
-#[cfg(test)]
-mod rows;

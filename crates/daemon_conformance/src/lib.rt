@@ -1,5 +1,5 @@
-//! Tests of the program `ndn_node`: its command line, its files, its log, its restart, and its
-//! journals.
+//! Tests of parts of the program `ndn_node`: options, lines of the log, the order of the first
+//! events, a reader that fails, and a journal in memory.
 #![tactic(auto)]
 
 #[cfg(test)]
@@ -7,12 +7,8 @@ mod command_line;
 #[cfg(test)]
 mod limits;
 #[cfg(test)]
-mod log;
-#[cfg(test)]
 mod log_lines;
 #[cfg(test)]
 mod restarts;
-#[cfg(test)]
-mod shortening;
 #[cfg(test)]
 mod watched;

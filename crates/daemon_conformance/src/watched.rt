@@ -8,8 +8,8 @@ use std::alloc::Global;
 
 /// A source that gives new rules once.
 #[derive(Drop)]
-pub struct Once {
-    pub renewal: Option<Renewal>,
+struct Once {
+    renewal: Option<Renewal>,
 }
 
 impl RuleSource for Once {
@@ -23,14 +23,14 @@ impl RuleSource for Once {
 }
 
 /// Returns the rules and keys in the octets of a rule file and of a key file.
-pub fn renewal_of(alloc: Global, rules: Vec<u8>, keys: Vec<u8>) -> Option<Renewal> {
+fn renewal_of(alloc: Global, rules: Vec<u8>, keys: Vec<u8>) -> Option<Renewal> {
     let read = read_rules(alloc, &rules).ok()?;
     let book = KeyBook::read_octets(alloc, &keys).ok()?;
     Some(Renewal::new(read, book, FileOctets { rules, keys }))
 }
 
 /// Returns the renewal that an empty rule file and an empty key file give.
-fn no_rules(alloc: Global) -> Option<Renewal> {
+pub fn no_rules(alloc: Global) -> Option<Renewal> {
     renewal_of(alloc, Vec::new(alloc), Vec::new(alloc))
 }
 

@@ -1,5 +1,6 @@
-//! Tests of the tables of next hops, registered routes, strategies and pending Interests. Also
-//! tests of the next hops that strategies choose, and of the content store.
+//! Tests of the tables of next hops, registered routes and pending Interests, of strategies, and of
+//! the content store that no scenario shows: limits, counts of comparisons, a strategy of the tests'
+//! own, and random calls.
 #![tactic(auto)]
 
 #[cfg(test)]
@@ -11,8 +12,4 @@ mod registered_routes;
 #[cfg(test)]
 mod route_table;
 #[cfg(test)]
-mod rows;
-#[cfg(test)]
 mod strategy_choices;
-#[cfg(test)]
-mod tables;

@@ -1,331 +1,487 @@
-//! Registered routes: what a name inherits, when routes expire, and how many routes there may be.
-
-mod effective_hops;
-mod random_sequences;
-mod route_limits;
+//! Random calls on a table of next hops and registered routes. The answers are compared with the
+//! answers of plain arrays of next hops and routes. To find the effective next hops of a name, the
+//! arrays are searched separately for each face.
 
 use crate::route_table::{Route, RouteTable};
-use crate::rows::check_rows;
-use crate::tables::put_hops;
 use ndn_names::{Name, NameBuf};
 use pit_fib::*;
 use std::alloc::Global;
+use test_support::random;
 
-/// Sets a field of a route, as in `cost=5`.
-fn set_field(route: &mut Route, setting: &str) -> Option<()> {
-    let (field, value) = setting.split_once('=')?;
-    let value = value.parse().ok()?;
-    match field {
-        "cost" => route.cost = value,
-        "origin" => route.origin = value,
-        "flags" => route.flags = value,
-        "until" => route.deadline = Some(value),
-        _ => return None,
-    }
-    Some(())
-}
-
-/// Reads the face of a route and the settings of the route, such as
-/// `2 cost=5 origin=1 flags=2 until=1000`. By default the cost and the origin are 0, the flags are
-/// 1, and the route never expires.
-fn route_in(words: &str) -> Option<Route> {
-    let (face, settings) = words.split_once(' ').unwrap_or((words, ""));
-    let mut route = Route::new(face.parse().ok()?, 0);
-    for setting in settings.split_ascii_whitespace() {
-        set_field(&mut route, setting)?;
-    }
-    Some(route)
-}
-
-/// Runs `add`, `register`, `remove` or `unregister` for the name `name`, with the face and the
-/// settings in `route`.
-fn change(routes: &mut RouteTable, call: &str, name: Name<'_>, route: Route) -> Option<()> {
-    match call {
-        "add" => routes.add(name, route.face, route.cost).ok()?,
-        "register" => routes.register(name, route).ok()?,
-        "remove" => routes.remove(name, route.face),
-        "unregister" => routes.unregister(name, route.face, route.origin),
-        _ => return None,
-    }
-    Some(())
-}
-
-/// Appends next hops as ` 3@0 2@5`, or as ` none` if there are none.
-fn put_hops_or_none(text: &mut String, hops: &Hops) -> Option<()> {
-    if hops.len() == 0 {
-        return text.push_str(" none").ok();
-    }
-    put_hops(text, hops)
-}
-
-/// Appends each row as its name and its next hops, such as ` | /A 3@0 2@5`.
-fn put_rows(text: &mut String, rows: &[(NameBuf, Hops)]) -> Option<()> {
-    for row in rows {
-        write!(text, " | {}", row.0.view()).ok()?;
-        put_hops_or_none(text, &row.1)?;
-    }
-    Some(())
-}
-
-/// For each name in the list of `fib`, appends the name and its next hops.
-fn put_list(alloc: Global, text: &mut String, fib: &Fib, now: u64) -> Option<()> {
-    let rows = fib.list(alloc, now).ok()?;
-    put_rows(text, &rows)
-}
-
-/// Shows each name with its next hops, as `/A 3@0 2@5 | /B 2@5`, or `none` if there are no names.
-fn list_or_none(alloc: Global, fib: &Fib, now: u64) -> Option<String> {
-    let mut text = String::new(alloc);
-    put_list(alloc, &mut text, fib, now)?;
-    String::from_str(alloc, text.strip_prefix(" | ").unwrap_or("none")).ok()
-}
-
-/// Appends `; ` and the answer to `list` at the moment `now`.
-fn put_told_list(alloc: Global, text: &mut String, fib: &Fib, now: u64) -> Option<()> {
-    let list = list_or_none(alloc, fib, now)?;
-    write!(text, "; {list}").ok()
-}
-
-/// Appends `; ` and the answer to `due`, `expire` or `list` at a moment.
-fn put_told(
-    alloc: Global,
-    text: &mut String,
-    routes: &mut RouteTable,
-    call: &str,
-    now: u64,
-) -> Option<()> {
-    match call {
-        "due" => write!(text, "; {}", routes.read().due(now)).ok(),
-        "expire" => write!(text, "; {}", routes.expire(now)).ok(),
-        _ => put_told_list(alloc, text, routes.read(), now),
+/// Returns the octets of the name with this number. The names are `/`, `/A`, `/A/B`, `/A/B/C`,
+/// `/A/B/C/D`, `/A/C`, `/B` and `/AA`, in canonical order. If two of these names are prefixes of
+/// the same name, the later of the two is longer.
+fn octets_of(name: usize) -> &'static [u8] {
+    match name {
+        0 => b"",
+        1 => b"\x08\x01\x41",
+        2 => b"\x08\x01\x41\x08\x01\x42",
+        3 => b"\x08\x01\x41\x08\x01\x42\x08\x01\x43",
+        4 => b"\x08\x01\x41\x08\x01\x42\x08\x01\x43\x08\x01\x44",
+        5 => b"\x08\x01\x41\x08\x01\x43",
+        6 => b"\x08\x01\x42",
+        _ => b"\x08\x02\x41\x41",
     }
 }
 
-/// Appends `;` and the next hops that the longest prefix match of a name finds.
-fn put_longest(alloc: Global, text: &mut String, fib: &Fib, uri: &str) -> Option<()> {
-    let name = NameBuf::from_uri(alloc, uri).ok()?;
-    text.push(';').ok()?;
-    put_hops_or_none(text, &fib.longest(name.view()))
+fn name_at(name: usize) -> Option<Name<'static>> {
+    Name::read(octets_of(name)).ok()
 }
 
-/// Runs `add`, `register`, `remove` or `unregister`. `words` are a name, a face and settings such
-/// as `cost=5`.
-fn change_named(alloc: Global, routes: &mut RouteTable, call: &str, words: &str) -> Option<()> {
-    let (uri, words) = words.split_once(' ').unwrap_or((words, "0"));
-    let route = route_in(words)?;
-    let name = NameBuf::from_uri(alloc, uri).ok()?;
-    change(routes, call, name.view(), route)
+/// Returns whether the name numbered `prefix` is a proper prefix of the name numbered `name`.
+fn is_above(prefix: usize, name: usize) -> bool {
+    let (prefix, name) = (octets_of(prefix), octets_of(name));
+    prefix.len() < name.len() && name.starts_with(prefix)
 }
 
-/// Runs a call. For `due NOW`, `expire NOW`, `list NOW` and `of NAME`, appends `; ` and the answer.
-/// `close FACE` and the calls that `change_named` runs have no answer.
-fn put_answer(alloc: Global, text: &mut String, routes: &mut RouteTable, call: &str) -> Option<()> {
-    let (call, words) = call.split_once(' ')?;
-    match call {
-        "close" => {
-            routes.close_face(words.parse().ok()?);
-            Some(())
+/// The faces are 0, 1 and 2.
+const FACES: u64 = 3;
+
+fn is_inherited(route: Route) -> bool {
+    route.flags % 2 == 1
+}
+
+fn captures(route: Route) -> bool {
+    route.flags % 4 >= 2
+}
+
+fn ends_by(route: Route, now: u64) -> bool {
+    match route.deadline {
+        Some(deadline) => deadline <= now,
+        None => false,
+    }
+}
+
+/// The next hops of a name, by face, and its routes, by face and origin: the route of face F and
+/// origin O has the place 2 F + O.
+#[derive(Clone, Copy)]
+struct Entry {
+    hops: [Option<u64>; 3],
+    routes: [Option<Route>; 6],
+}
+
+impl Entry {
+    /// Returns an entry without next hops and routes.
+    fn new() -> Entry {
+        Entry {
+            hops: [None; 3],
+            routes: [None; 6],
         }
-        "due" | "expire" | "list" => put_told(alloc, text, routes, call, words.parse().ok()?),
-        "of" => put_longest(alloc, text, routes.read(), words),
-        _ => change_named(alloc, routes, call, words),
+    }
+
+    fn set_hop(&mut self, face: u64, cost: Option<u64>) {
+        if let Some(place) = self.hops.get_mut(face as usize) {
+            *place = cost;
+        }
+    }
+
+    fn set_route(&mut self, route: Route, new: Option<Route>) {
+        let place = route.face.saturating_mul(2).saturating_add(route.origin);
+        if let Some(place) = self.routes.get_mut(place as usize) {
+            *place = new;
+        }
+    }
+
+    fn hop_cost(&self, face: u64) -> Option<u64> {
+        *self.hops.get(face as usize)?
+    }
+
+    fn has_hops(&self) -> bool {
+        for hop in &self.hops {
+            if hop.is_some() {
+                return true;
+            }
+        }
+        false
+    }
+
+    fn has_routes(&self) -> bool {
+        for route in &self.routes {
+            if route.is_some() {
+                return true;
+            }
+        }
+        false
+    }
+
+    /// Returns whether the name has a next hop or a route.
+    fn stands(&self) -> bool {
+        self.has_hops() || self.has_routes()
+    }
+
+    fn has_capture(&self) -> bool {
+        for route in &self.routes {
+            if let Some(route) = route
+                && captures(*route)
+            {
+                return true;
+            }
+        }
+        false
+    }
+
+    /// Returns the least cost of the routes on a face, or `None` if there are no such routes. If
+    /// `inherited_alone` is set, only the child-inherit routes count.
+    fn least_cost(&self, face: u64, inherited_alone: bool) -> Option<u64> {
+        let mut least: Option<u64> = None;
+        for route in &self.routes {
+            if let Some(route) = route
+                && route.face == face
+                && (is_inherited(*route) || !inherited_alone)
+            {
+                least = Some(route.cost.min(least.unwrap_or(u64::MAX)));
+            }
+        }
+        least
+    }
+
+    /// Removes the routes that expire by a moment. Returns the number of removed routes.
+    fn expire(&mut self, now: u64) -> u64 {
+        let mut gone: u64 = 0;
+        for route in self.routes.iter_mut() {
+            if let Some(one) = *route
+                && ends_by(one, now)
+            {
+                *route = None;
+                gone = gone.saturating_add(1);
+            }
+        }
+        gone
     }
 }
 
-/// Runs calls that are separated by `, `, and appends the answers to the calls.
-fn put_answers(
+/// The entries of the eight names.
+type Plain = [Entry; 8];
+
+fn entry_at(plain: &Plain, name: usize) -> Entry {
+    match plain.get(name) {
+        Some(entry) => *entry,
+        None => Entry::new(),
+    }
+}
+
+/// Removes the next hop and the routes of a name on a face.
+fn close(entry: &mut Entry, face: u64) {
+    entry.set_hop(face, None);
+    for route in entry.routes.iter_mut() {
+        if let Some(one) = *route
+            && one.face == face
+        {
+            *route = None;
+        }
+    }
+}
+
+/// Removes the routes that expire by a moment. Returns the number of removed routes.
+fn expire(plain: &mut Plain, now: u64) -> u64 {
+    let mut gone: u64 = 0;
+    for entry in plain.iter_mut() {
+        gone = gone.saturating_add(entry.expire(now));
+    }
+    gone
+}
+
+/// Among the proper prefixes of a name, returns the longest one that has a child-inherit route on a
+/// face, or `None` if no proper prefix has such a route.
+fn nearest(plain: &Plain, name: usize, face: u64) -> Option<usize> {
+    let mut nearest = None;
+    for (above, entry) in plain.iter().enumerate() {
+        if is_above(above, name) && entry.least_cost(face, true).is_some() {
+            nearest = Some(above);
+        }
+    }
+    nearest
+}
+
+/// Returns whether a proper prefix of `name` that is longer than `above` has a capture route.
+fn is_captured(plain: &Plain, name: usize, above: usize) -> bool {
+    for (between, entry) in plain.iter().enumerate() {
+        if is_above(above, between) && is_above(between, name) && entry.has_capture() {
+            return true;
+        }
+    }
+    false
+}
+
+/// How often a name inherited a cost, how often a capture route of a proper prefix prevented the
+/// inheritance of a cost, and how many routes expired.
+#[derive(Clone, Copy)]
+struct Seen {
+    inherited: u64,
+    captured: u64,
+    ended: u64,
+}
+
+/// Returns the cost that a name inherits for a face from the prefix that `nearest` returns. Returns
+/// `None` if there is no such prefix, if the name has no route or has a capture route, or if a name
+/// between the prefix and the name has a capture route.
+fn inherited_cost(plain: &Plain, seen: &mut Seen, name: usize, face: u64) -> Option<u64> {
+    let own = entry_at(plain, name);
+    if !own.has_routes() || own.has_capture() {
+        return None;
+    }
+    let above = nearest(plain, name, face)?;
+    if is_captured(plain, name, above) {
+        seen.captured = seen.captured.saturating_add(1);
+        return None;
+    }
+    seen.inherited = seen.inherited.saturating_add(1);
+    entry_at(plain, above).least_cost(face, true)
+}
+
+/// Returns the cost of the effective next hop of a name on a face, or `None` if there is no such
+/// next hop.
+fn cost(plain: &Plain, seen: &mut Seen, name: usize, face: u64) -> Option<u64> {
+    let own = entry_at(plain, name);
+    if let Some(cost) = own.hop_cost(face) {
+        return Some(cost);
+    }
+    if let Some(cost) = own.least_cost(face, false) {
+        return Some(cost);
+    }
+    inherited_cost(plain, seen, name, face)
+}
+
+/// Among the prefixes of a name, returns the longest one that has a next hop or a route, or `None`
+/// if there is no such prefix.
+fn longest(plain: &Plain, name: usize) -> Option<usize> {
+    let mut longest = None;
+    for (prefix, entry) in plain.iter().enumerate() {
+        if (prefix == name || is_above(prefix, name)) && entry.stands() {
+            longest = Some(prefix);
+        }
+    }
+    longest
+}
+
+/// Returns the cost of the next hop on this face, or `None` if no next hop is on this face.
+fn cost_in(hops: &Hops, face: u64) -> Option<u64> {
+    for i in 0..hops.len() {
+        if let Some(hop) = hops.get(i)
+            && hop.face == face
+        {
+            return Some(hop.cost);
+        }
+    }
+    None
+}
+
+/// Returns whether next hops are ordered by cost, and next hops of the same cost by face.
+fn are_in_order(hops: &Hops) -> bool {
+    let mut before = None;
+    for i in 0..hops.len() {
+        let here = match hops.get(i) {
+            Some(hop) => Some((hop.cost, hop.face)),
+            None => None,
+        };
+        if here <= before {
+            return false;
+        }
+        before = here;
+    }
+    true
+}
+
+/// Returns whether `hops` are the effective next hops of a name, or are empty if `name` is `None`.
+fn hops_agree(plain: &Plain, seen: &mut Seen, name: Option<usize>, hops: &Hops) -> bool {
+    let mut len: usize = 0;
+    for face in 0..FACES {
+        let cost = match name {
+            Some(name) => cost(plain, seen, name, face),
+            None => None,
+        };
+        if cost_in(hops, face) != cost {
+            return false;
+        }
+        len = len.saturating_add(usize::from(cost.is_some()));
+    }
+    hops.len() == len && are_in_order(hops)
+}
+
+/// Looks up a name. Returns whether the lookup takes at most 4 searches, and finds the next hops
+/// that the arrays give.
+fn longest_agrees(routes: &RouteTable, plain: &Plain, seen: &mut Seen, name: usize) -> bool {
+    let Some(view) = name_at(name) else {
+        return false;
+    };
+    let mut steps = 0;
+    let hops = routes.read().longest_counted(view, &mut steps);
+    hops_agree(plain, seen, longest(plain, name), &hops) && steps <= 4
+}
+
+/// Returns whether a row has this name, and the effective next hops of the name.
+fn row_agrees(row: &(NameBuf, Hops), plain: &Plain, seen: &mut Seen, name: usize) -> bool {
+    row.0.view().as_octets() == octets_of(name) && hops_agree(plain, seen, Some(name), &row.1)
+}
+
+/// Returns whether `rows` has exactly the names that have an entry in the arrays. The names must be
+/// in canonical order, and each row must have the effective next hops of its name.
+fn rows_agree(rows: &[(NameBuf, Hops)], plain: &Plain, seen: &mut Seen) -> Option<bool> {
+    let mut at: usize = 0;
+    for (name, entry) in plain.iter().enumerate() {
+        if entry.stands() {
+            if !row_agrees(rows.get(at)?, plain, seen, name) {
+                return Some(false);
+            }
+            at = at.saturating_add(1);
+        }
+    }
+    Some(rows.len() == at)
+}
+
+/// Returns whether the table's list at a moment, and the number of routes that expire by then,
+/// agree with the arrays.
+fn list_agrees(
     alloc: Global,
-    text: &mut String,
-    routes: &mut RouteTable,
-    calls: &str,
-) -> Option<()> {
-    for call in calls.split(", ") {
-        put_answer(alloc, text, routes, call)?;
+    routes: &RouteTable,
+    plain: &Plain,
+    seen: &mut Seen,
+    now: u64,
+) -> bool {
+    let mut left = *plain;
+    let due = expire(&mut left, now);
+    match routes.read().list(alloc, now) {
+        Ok(rows) => {
+            routes.read().due(now) == due && rows_agree(&rows, &left, seen) == Some(true)
+        }
+        Err(_) => false,
     }
-    Some(())
 }
 
-/// Returns the answers of a table to calls that are separated by `, `.
-fn answers_of(alloc: Global, routes: &mut RouteTable, calls: &str) -> Option<String> {
-    let mut text = String::new(alloc);
-    put_answers(alloc, &mut text, routes, calls)?;
-    String::from_str(alloc, text.strip_prefix("; ")?).ok()
+/// Removes the routes that expire by a moment. Returns whether equally many routes are removed from
+/// the table and from the arrays.
+fn expire_agrees(routes: &mut RouteTable, plain: &mut Plain, seen: &mut Seen, now: u64) -> bool {
+    let gone = expire(plain, now);
+    seen.ended = seen.ended.saturating_add(gone);
+    routes.expire(now) == gone
 }
 
-/// Returns the answers of an empty table to calls that are separated by `, `.
-fn answers(alloc: Global, row: &str) -> Option<String> {
+/// Makes the same change in the table and in the arrays. Returns whether the table accepts it: with
+/// ample memory, no change is refused.
+fn change(
+    routes: &mut RouteTable,
+    plain: &mut Plain,
+    name: usize,
+    change: u64,
+    route: Route,
+) -> Option<bool> {
+    let view = name_at(name)?;
+    let entry = plain.get_mut(name)?;
+    match change {
+        0 => {
+            routes.remove(view, route.face);
+            entry.set_hop(route.face, None);
+        }
+        1..=6 => {
+            routes.unregister(view, route.face, route.origin);
+            entry.set_route(route, None);
+        }
+        7 | 8 => {
+            entry.set_hop(route.face, Some(route.cost));
+            return Some(routes.add(view, route.face, route.cost).is_ok());
+        }
+        _ => {
+            entry.set_route(route, Some(route));
+            return Some(routes.register(view, route).is_ok());
+        }
+    }
+    Some(true)
+}
+
+/// Closes a face in the table and in the arrays.
+fn close_face(routes: &mut RouteTable, plain: &mut Plain, face: u64) {
+    routes.close_face(face);
+    for entry in plain.iter_mut() {
+        close(entry, face);
+    }
+}
+
+/// Returns a random route. On average, one route in three has a deadline, which is below 24.
+fn random_route(state: &mut u64) -> Route {
+    let (face, origin) = (random(state, FACES), random(state, 2));
+    let (cost, flags) = (random(state, 4), random(state, 8));
+    let ends = random(state, 3) == 0;
+    let moment = random(state, 24);
+    Route {
+        face,
+        origin,
+        cost,
+        flags,
+        deadline: if ends { Some(moment) } else { None },
+    }
+}
+
+/// Returns whether a random call agrees with the arrays, and the next hops of a random name then
+/// agree with the arrays as well.
+fn call_agrees(
+    alloc: Global,
+    routes: &mut RouteTable,
+    plain: &mut Plain,
+    seen: &mut Seen,
+    state: &mut u64,
+) -> bool {
+    let (name, route, now) = (
+        random(state, 8) as usize,
+        random_route(state),
+        random(state, 24),
+    );
+    let agrees = match random(state, 32) {
+        0 | 1 => expire_agrees(routes, plain, seen, now),
+        2..=7 => list_agrees(alloc, routes, plain, seen, now),
+        8 => {
+            close_face(routes, plain, route.face);
+            true
+        }
+        call => change(routes, plain, name, call.saturating_sub(9), route) == Some(true),
+    };
+    let asked = random(state, 8) as usize;
+    agrees && longest_agrees(routes, plain, seen, asked)
+}
+
+/// Returns the number of names that have a next hop or a route.
+fn names_of(plain: &Plain) -> usize {
+    let mut names: usize = 0;
+    for entry in plain {
+        names = names.saturating_add(usize::from(entry.stands()));
+    }
+    names
+}
+
+/// Returns whether 40 random calls on an empty table and on empty arrays agree, and the effective
+/// next hops and the number of names in the table then agree as well.
+fn calls_agree(alloc: Global, routes: &mut RouteTable, seen: &mut Seen, state: &mut u64) -> bool {
+    let mut plain = [Entry::new(); 8];
+    for _ in 0..40 {
+        if !call_agrees(alloc, routes, &mut plain, seen, state) {
+            return false;
+        }
+    }
+    list_agrees(alloc, routes, &plain, seen, 0) && routes.read().len() == names_of(&plain)
+}
+
+fn sequence_agrees(alloc: Global, seen: &mut Seen, state: &mut u64) -> bool {
     let mut routes = RouteTable::new(alloc);
-    answers_of(alloc, &mut routes, row)
+    calls_agree(alloc, &mut routes, seen, state)
 }
 
-/// Runs calls that are separated by `, `.
-fn run(alloc: Global, routes: &mut RouteTable, calls: &str) -> Option<()> {
-    let mut text = String::new(alloc);
-    put_answers(alloc, &mut text, routes, calls)
-}
-
-/// Returns whether a table has the same next hops and routes as an empty table has after the calls
-/// `calls`.
-fn has_routes_after(alloc: Global, fib: &Fib, calls: &str) -> Option<bool> {
-    let mut other = RouteTable::new(alloc);
-    run(alloc, &mut other, calls)?;
-    fib.has_same_routes(alloc, other.read()).ok()
-}
-
-/// Returns whether two tables have the same next hops and routes. Each table is given by calls that
-/// run on an empty table.
-fn are_same(alloc: Global, calls: &str, others: &str) -> Option<bool> {
-    let mut routes = RouteTable::new(alloc);
-    run(alloc, &mut routes, calls)?;
-    has_routes_after(alloc, routes.read(), others)
-}
-
-/// Shows `true` if two tables have the same next hops and routes, and `false` otherwise. Each table
-/// is given by calls that run on an empty table.
-fn sameness(alloc: Global, row: &str) -> Option<String> {
-    let (calls, others) = row.split_once("; ")?;
-    let is_same = are_same(alloc, calls, others)?;
-    format!(in alloc; "{is_same}").ok()
+/// Returns whether 400 sequences agree with the arrays. Over all sequences, each count in `Seen`
+/// must be greater than 100.
+fn all_agree(alloc: Global) -> bool {
+    let mut state = 0x2545_f491_4f6c_dd1d;
+    let mut seen = Seen {
+        inherited: 0,
+        captured: 0,
+        ended: 0,
+    };
+    for _ in 0..400 {
+        if !sequence_agrees(alloc, &mut seen, &mut state) {
+            return false;
+        }
+    }
+    seen.inherited > 100 && seen.captured > 100 && seen.ended > 100
 }
 
 #[test]
-fn same_routes(rt: HostRuntime) {
-    let rows = "
-add /A 3 cost=5, register /B 2 cost=1 until=9; register /B 2 cost=1 until=9, add /A 3 cost=6, add /A 3 cost=5 -> true
-add /A 3 cost=5; add /A 3 cost=6 -> false
-add /A 3; add /A 4 -> false
-add /A 3; add /B 3 -> false
-add /A 3; add /A 3, add /B 3 -> false
-add /A 3; register /A 3 -> false
-register /A 2; register /A 2 cost=1 -> false
-register /A 2; register /A 2 origin=1 -> false
-register /A 2; register /A 2 flags=3 -> false
-register /A 2; register /A 2 until=9 -> false
-";
-    check_rows(&rt, rt.alloc(), rows, sameness);
-}
-
-const ROUTES_END_AT_THEIR_DEADLINES: &str = "\
-register /A 2 cost=5 until=1000, due 999, list 999, expire 999, of /A -> 0; /A 2@5; 0; 2@5
-register /A 2 cost=5 until=1000, due 1000, list 1000, list 999, of /A -> 1; none; /A 2@5; 2@5
-register /A 2 cost=5 until=1000, expire 1000, of /A, list 0, due 1000, expire 1000 -> 1; none; none; 0; 0
-register /A 2 until=1000, expire 1001, list 0 -> 1; none
-# without a deadline, and with the least and the greatest one
-register /A 2 cost=5, due 18446744073709551615, list 18446744073709551615, expire 18446744073709551615, of /A -> 0; /A 2@5; 0; 2@5
-register /A 2 until=0, of /A, due 0, expire 0, of /A -> 2@0; 1; 1; none
-register /A 2 until=18446744073709551615, due 18446744073709551614, expire 18446744073709551614, of /A -> 0; 0; 2@0
-register /A 2 until=18446744073709551615, due 18446744073709551615, list 18446744073709551615, expire 18446744073709551615, of /A -> 1; none; 1; none
-# several routes: each is counted
-register /A 2 until=9, register /A 2 origin=1 cost=4 until=10, register /A 3 until=9, register /B 2 until=9, due 8, due 9, list 9, expire 9, list 0, expire 10, list 0 -> 0; 3; /A 2@4; 3; /A 2@4; 1; none
-register /A 2 until=9, register /B 2 until=5, expire 5, expire 8, expire 9 -> 1; 0; 1
-# an empty table
-due 18446744073709551615, expire 18446744073709551615, list 18446744073709551615 -> 0; 0; none
-";
-
-/// A route is listed before its deadline, but not at its deadline. An expiry at the deadline
-/// removes the route. `due` and `expire` return the number of routes whose deadline has come.
-#[test]
-fn routes_end_at_their_deadlines(rt: HostRuntime) {
-    check_rows(&rt, rt.alloc(), ROUTES_END_AT_THEIR_DEADLINES, answers);
-}
-
-const WHAT_ENDS_WITH_A_ROUTE: &str = "\
-# a next hop never ends
-add /A 2 cost=1, register /A 3 until=5, list 5, expire 5, list 0 -> /A 2@1; 1; /A 2@1
-add /A 2 cost=9, register /A 2 cost=1 until=5, expire 5, of /A -> 1; 2@9
-# a route that longer names inherit, and the route for which they inherit it
-register /A 2 until=5, register /A/B 3, of /A/B, list 5, expire 5, of /A/B -> 2@0 3@0; /A/B 3@0; 1; 3@0
-register /A 2, register /A/B 3 until=5, of /A/B, list 5, expire 5, of /A/B -> 2@0 3@0; /A 2@0; 1; 2@0
-add /A/B 4, register /A 2, register /A/B 3 until=5, of /A/B, list 5, expire 5, of /A/B -> 2@0 3@0 4@0; /A 2@0 | /A/B 4@0; 1; 4@0
-# a capture route of the name, and of a name between
-register /A 2, register /A/B 3, register /A/B 4 flags=2 until=5, of /A/B, list 4, list 5, expire 5, of /A/B -> 3@0 4@0; /A 2@0 | /A/B 3@0 4@0; /A 2@0 | /A/B 2@0 3@0; 1; 2@0 3@0
-register / 2, register /A 4 flags=2 until=5, register /A/B 3, of /A/B, list 5, expire 5, of /A/B -> 3@0; / 2@0 | /A/B 2@0 3@0; 1; 2@0 3@0
-# the nearest of two child-inherit routes, and the lesser of two origins
-register / 2 cost=1, register /A 2 cost=9 until=5, register /A/B 3, of /A/B, list 5, expire 5, of /A/B -> 3@0 2@9; / 2@1 | /A/B 3@0 2@1; 1; 3@0 2@1
-register /A 2 cost=1 until=5, register /A 2 cost=9 origin=1, of /A, list 5, expire 5, of /A -> 2@1; /A 2@9; 1; 2@9
-";
-
-/// An expired route has no effect any more on the effective next hops of its name and of longer
-/// names. `list` leaves the route out from its deadline on, and lookups leave the route out after
-/// `expire`.
-#[test]
-fn what_ends_with_a_route(rt: HostRuntime) {
-    check_rows(&rt, rt.alloc(), WHAT_ENDS_WITH_A_ROUTE, answers);
-}
-
-const THE_LAST_REGISTRATION_COUNTS: &str = "\
-# the deadline
-register /A 2 until=5, register /A 2, due 18446744073709551615, expire 5, of /A -> 0; 0; 2@0
-register /A 2, register /A 2 until=5, due 5, expire 5, of /A -> 1; 1; none
-register /A 2 until=5, register /A 2 until=9, due 8, expire 8, due 9, expire 9 -> 0; 0; 1; 1
-register /A 2 until=9, register /A 2 until=5, due 5, expire 5, of /A -> 1; 1; none
-# the cost and the flags
-register /A 2 cost=4, register /A 2 cost=9, of /A -> 2@9
-register /A 2 cost=9, register /A 2, of /A -> 2@0
-register /A 2, register /A 2 flags=0, register /A/B 3, of /A/B -> 3@0
-register /A 2 flags=0, register /A 2, register /A/B 3, of /A/B -> 2@0 3@0
-register /A 2, register /A/B 3 flags=2, register /A/B 3, of /A/B -> 2@0 3@0
-# another origin is another route
-register /A 2 cost=4, register /A 2 cost=9 origin=1, of /A, due 9 -> 2@4; 0
-";
-
-/// When a route is registered again, the new cost, flags and deadline replace the old ones. A route
-/// with the same name and face, but with another origin, does not replace the old route.
-#[test]
-fn the_last_registration_counts(rt: HostRuntime) {
-    check_rows(&rt, rt.alloc(), THE_LAST_REGISTRATION_COUNTS, answers);
-}
-
-const WHAT_REMOVALS_LEAVE: &str = "\
-# a route goes by its name, face and origin
-register /A 2 cost=4, unregister /A 2, of /A, list 0 -> none; none
-register /A 2 cost=4, unregister /A 2 origin=1, of /A -> 2@4
-register /A 2 cost=4, unregister /A 3, unregister /B 2, unregister /A/B 2, of /A -> 2@4
-register /A 2 cost=4, register /A 2 cost=1 origin=1, unregister /A 2 origin=1, of /A -> 2@4
-register /A 2 until=5, unregister /A 2, due 5, expire 5 -> 0; 0
-unregister /A 2, remove /A 2, close 2, list 0 -> none
-# next hops and routes of one name and face
-add /A 2 cost=3, register /A 2 cost=1, unregister /A 2, of /A -> 2@3
-add /A 2 cost=3, register /A 2 cost=1, remove /A 2, of /A -> 2@1
-add /A 2, register /A 3, remove /A 2, list 0, unregister /A 3, list 0 -> /A 3@0; none
-add /A 2, register /A 3, unregister /A 3, list 0, remove /A 2, list 0 -> /A 2@0; none
-register /A 2, remove /A 2, of /A -> 2@0
-add /A 2, unregister /A 2, of /A -> 2@0
-";
-
-/// `remove` removes only the next hop with the given name and face. `unregister` removes only the
-/// route with the given name, face and origin. If the name's entry then has no next hop and no
-/// route, the entry is removed as well.
-#[test]
-fn what_removals_leave(rt: HostRuntime) {
-    check_rows(&rt, rt.alloc(), WHAT_REMOVALS_LEAVE, answers);
-}
-
-const A_FACE_CLOSES_WITH_ITS_ROUTES: &str = "\
-add /A 2, register /A 2, register /A 2 origin=1, register /A 3, register /B 2, close 2, list 0 -> /A 3@0
-add /A 2 cost=4, register /A 3, register /B 3, add /B 3, close 3, list 0 -> /A 2@4
-register / 2, register /A 3, of /A, close 2, of /A -> 2@0 3@0; 3@0
-register / 2, register /A 3, register /A 4 flags=2, of /A, close 4, of /A -> 3@0 4@0; 2@0 3@0
-register /A 2 until=5, register /A 3 until=5, close 2, due 5, expire 5, list 0 -> 1; 1; none
-register /A 2 until=5, register /A 3 until=9, close 2, expire 8, expire 9 -> 0; 1
-register /A 18446744073709551615, register /A 2, close 18446744073709551615, list 0 -> /A 2@0
-register /A 2, close 3, list 0 -> /A 2@0
-";
-
-/// When a face closes, its next hops and routes are removed.
-#[test]
-fn a_face_closes_with_its_routes(rt: HostRuntime) {
-    check_rows(&rt, rt.alloc(), A_FACE_CLOSES_WITH_ITS_ROUTES, answers);
-}
-
-const ENDS_OF_ROUTES: &str = "\
-register /A 18446744073709551615 cost=18446744073709551615 origin=18446744073709551615 flags=18446744073709551615 until=18446744073709551615, of /A, due 18446744073709551614, due 18446744073709551615 -> 18446744073709551615@18446744073709551615; 0; 1
-register /A 0 cost=18446744073709551615, register /A 0 cost=18446744073709551614 origin=18446744073709551615, of /A, unregister /A 0 origin=18446744073709551615, of /A -> 0@18446744073709551614; 0@18446744073709551615
-";
-
-/// The face, cost, origin, flags and deadline of a route may each be the greatest u64. The face and
-/// the origin of a route may be 0.
-#[test]
-fn ends_of_routes(rt: HostRuntime) {
-    check_rows(&rt, rt.alloc(), ENDS_OF_ROUTES, answers);
+fn random_sequences(rt: HostRuntime) {
+    assert!(rt; all_agree(rt.alloc()));
 }

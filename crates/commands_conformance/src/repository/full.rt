@@ -1,6 +1,6 @@
 //! Tests of a full repository.
 
-use super::{empty_repo, offer_packet, status_at_0};
+use super::{data_in, empty_repo, status_and_count};
 use ndn_names::Name;
 use repo_core::Repo;
 use std::alloc::Global;
@@ -17,17 +17,20 @@ const DATA: [u8; 17] = *b"\x06\x0f\x07\x06\x08\x04NNNN\x16\x03\x1b\x01\x00\x17\x
 fn inserts(repo: &mut Repo, number: u32, status: u16) -> bool {
     let mut octets = INSERT;
     octets[22..26].copy_from_slice(&number.to_be_bytes());
-    let Ok(name) = Name::read(&octets) else {
-        return false;
-    };
-    status_at_0(repo, name) == Some(status)
+    match Name::read(&octets) {
+        Ok(name) => matches!(status_and_count(repo, name, 0), Some((was, _)) if was == status),
+        Err(_) => false,
+    }
 }
 
 /// Offers the Data `/N`, where N is `number`, and returns whether the Data answers a want.
 fn fills(repo: &mut Repo, number: u32) -> bool {
     let mut octets = DATA;
     octets[6..10].copy_from_slice(&number.to_be_bytes());
-    offer_packet(repo, &octets) == Some(true)
+    match data_in(&octets) {
+        Some(data) => matches!(repo.offer(&data), Ok(true)),
+        None => false,
+    }
 }
 
 /// Returns whether the repository accepts 65,536 objects and wants in total, and then refuses a
@@ -47,11 +50,14 @@ fn holds_so_many(repo: &mut Repo) -> bool {
         && inserts(repo, 65_535, 200)
 }
 
-fn is_filled(alloc: Global) -> Option<bool> {
-    Some(holds_so_many(&mut empty_repo(alloc)?))
+fn is_filled(alloc: Global) -> bool {
+    match empty_repo(alloc) {
+        Some(mut repo) => holds_so_many(&mut repo),
+        None => false,
+    }
 }
 
 #[test]
 fn full_repository(rt: HostRuntime) {
-    assert!(rt; is_filled(rt.alloc()) == Some(true));
+    assert!(rt; is_filled(rt.alloc()));
 }

@@ -1,307 +1,328 @@
-//! Tests of random calls on a repository. The answers are compared with the answers of plain lists,
-//! which are searched from end to end.
+//! Tests of random calls on a repository. The answers are compared with the answers of plain arrays,
+//! which are searched from end to end. An independent program made the packets and the names of the
+//! commands. The names are `/A`, `/A/B`, `/A/C`, `/B` and `/AA`, in canonical order. The name
+//! numbered 0 is a prefix of the next two.
 
-use super::{asking, command_on, empty_repo, status_and_count};
-use crate::management::{data_in, interest_in};
-use repo_core::*;
+use super::{data_in, empty_repo, status_and_count};
+use ndn_names::Name;
+use ndn_packets::{Frame, Interest, read_frame};
+use repo_core::Repo;
 use std::alloc::Global;
-use test_support::{data_of, digest_of, random};
+use test_support::{octets, random};
 
-/// Names in canonical order. The first name is a prefix of the next two.
-const NAMES: [&str; 5] = ["/A", "/A/B", "/A/C", "/B", "/AA"];
+/// Two Data for each name, in the canonical order of their full names.
+const DATA: &str = "
+0632070308014115040200000016031b010017204cf035030641ccb703951ac2e39f6d0dec5de99dd7b7dfbf9afac93172f8249e
+0632070308014115040100000016031b010017201a14e8790b6614c4a432c2a01090dbbb7f720346f17c1a99b2c4ef1baeaba094
+0632070608014108014215010216031b01001720de5e62be43cf6fd58295ab6aa9d987ec6c93d6fd9d6bfac31022764566ee3758
+0632070608014108014215010116031b01001720141203f9456333d40bccb59bd63ae86d3be93c642f6ebaf69e123067c3e42cd4
+0632070608014108014315010116031b01001720539d47605c06aa736ea7294fca14f84c61b6e194566bf40688e9bda4e1283192
+0632070608014108014315010216031b01001720426b9c180a8b4cf1e24786edb1faca1109d4fa44e94784b272c8b73331433797
+0632070308014215040200000016031b010017207e8284a56ddf091f2d3666bdaf602bebc9de33fc50b0c34c10f78fbdbd327bf8
+0632070308014215040100000016031b0100172012f0c7cbb48412c492cff3c9e5d6695df8a74a13b16e5c038409bc6e51699077
+0632070408024141150302000016031b01001720f19bbb6b8e7a32996ba181950fb127af99451afdcbe90118c0bb43231a8d9e4b
+0632070408024141150301000016031b01001720546639b40dc3834367b2c2bcef0a21e2c2a2200c99a5bc27b4dedeb643d1b3e6
+";
 
-/// Returns whether the name `first` is a prefix of the name `second`. Both names are given as
-/// indexes into `NAMES`.
-fn begins(first: usize, second: usize) -> bool {
-    first == second || (first == 0 && (second == 1 || second == 2))
-}
+const DATA_LEN: usize = 52;
 
-/// A Data, its digest, and the index of its name in `NAMES`.
-#[derive(Drop)]
-struct Made {
-    name: usize,
-    packet: Vec<u8>,
-    digest: [u8; 32],
-}
+/// The names of commands: delete, check and insert, each for each name, without and with
+/// CanBePrefix. An element of an unknown type fills the parameters, so that all have the same
+/// length.
+const COMMANDS: &str = "
+08047265706f080664656c6574650811c90f0703080141f00500000000000c010002200000000000000000000000000000000000000000000000000000000000000000
+08047265706f080664656c6574650811c90f07030801412100f0030000000c010002200000000000000000000000000000000000000000000000000000000000000000
+08047265706f080664656c6574650811c90f0706080141080142f00200000c010002200000000000000000000000000000000000000000000000000000000000000000
+08047265706f080664656c6574650811c90f07060801410801422100f0000c010002200000000000000000000000000000000000000000000000000000000000000000
+08047265706f080664656c6574650811c90f0706080141080143f00200000c010002200000000000000000000000000000000000000000000000000000000000000000
+08047265706f080664656c6574650811c90f07060801410801432100f0000c010002200000000000000000000000000000000000000000000000000000000000000000
+08047265706f080664656c6574650811c90f0703080142f00500000000000c010002200000000000000000000000000000000000000000000000000000000000000000
+08047265706f080664656c6574650811c90f07030801422100f0030000000c010002200000000000000000000000000000000000000000000000000000000000000000
+08047265706f080664656c6574650811c90f070408024141f004000000000c010002200000000000000000000000000000000000000000000000000000000000000000
+08047265706f080664656c6574650811c90f0704080241412100f00200000c010002200000000000000000000000000000000000000000000000000000000000000000
+08047265706f0805636865636b0812c9100703080141f0060000000000000c010002200000000000000000000000000000000000000000000000000000000000000000
+08047265706f0805636865636b0812c91007030801412100f004000000000c010002200000000000000000000000000000000000000000000000000000000000000000
+08047265706f0805636865636b0812c9100706080141080142f0030000000c010002200000000000000000000000000000000000000000000000000000000000000000
+08047265706f0805636865636b0812c91007060801410801422100f001000c010002200000000000000000000000000000000000000000000000000000000000000000
+08047265706f0805636865636b0812c9100706080141080143f0030000000c010002200000000000000000000000000000000000000000000000000000000000000000
+08047265706f0805636865636b0812c91007060801410801432100f001000c010002200000000000000000000000000000000000000000000000000000000000000000
+08047265706f0805636865636b0812c9100703080142f0060000000000000c010002200000000000000000000000000000000000000000000000000000000000000000
+08047265706f0805636865636b0812c91007030801422100f004000000000c010002200000000000000000000000000000000000000000000000000000000000000000
+08047265706f0805636865636b0812c910070408024141f00500000000000c010002200000000000000000000000000000000000000000000000000000000000000000
+08047265706f0805636865636b0812c9100704080241412100f0030000000c010002200000000000000000000000000000000000000000000000000000000000000000
+08047265706f0806696e736572740811c90f0703080141f00500000000000c010002200000000000000000000000000000000000000000000000000000000000000000
+08047265706f0806696e736572740811c90f07030801412100f0030000000c010002200000000000000000000000000000000000000000000000000000000000000000
+08047265706f0806696e736572740811c90f0706080141080142f00200000c010002200000000000000000000000000000000000000000000000000000000000000000
+08047265706f0806696e736572740811c90f07060801410801422100f0000c010002200000000000000000000000000000000000000000000000000000000000000000
+08047265706f0806696e736572740811c90f0706080141080143f00200000c010002200000000000000000000000000000000000000000000000000000000000000000
+08047265706f0806696e736572740811c90f07060801410801432100f0000c010002200000000000000000000000000000000000000000000000000000000000000000
+08047265706f0806696e736572740811c90f0703080142f00500000000000c010002200000000000000000000000000000000000000000000000000000000000000000
+08047265706f0806696e736572740811c90f07030801422100f0030000000c010002200000000000000000000000000000000000000000000000000000000000000000
+08047265706f0806696e736572740811c90f070408024141f004000000000c010002200000000000000000000000000000000000000000000000000000000000000000
+08047265706f0806696e736572740811c90f0704080241412100f00200000c010002200000000000000000000000000000000000000000000000000000000000000000
+";
 
+const COMMAND_LEN: usize = 67;
+
+/// The place of the octet with the lifetime in the name of a command.
+const LIFETIME: usize = 32;
+
+/// Interests for each name, without and with CanBePrefix, and each of these without and with
+/// MustBeFresh. An element of an unknown type fills each Interest.
+const INTERESTS: &str = "
+051407030801410a0400000000f00700000000000000
+0514070308014112000a0400000000f0050000000000
+0514070308014121000a0400000000f0050000000000
+05140703080141210012000a0400000000f003000000
+051407060801410801420a0400000000f00400000000
+0514070608014108014212000a0400000000f0020000
+0514070608014108014221000a0400000000f0020000
+05140706080141080142210012000a0400000000f000
+051407060801410801430a0400000000f00400000000
+0514070608014108014312000a0400000000f0020000
+0514070608014108014321000a0400000000f0020000
+05140706080141080143210012000a0400000000f000
+051407030801420a0400000000f00700000000000000
+0514070308014212000a0400000000f0050000000000
+0514070308014221000a0400000000f0050000000000
+05140703080142210012000a0400000000f003000000
+05140704080241410a0400000000f006000000000000
+051407040802414112000a0400000000f00400000000
+051407040802414121000a0400000000f00400000000
+0514070408024141210012000a0400000000f0020000
+";
+
+const INTEREST_LEN: usize = 22;
+
+/// The content of a repository: for each Data whether it is stored, and for each name, without and
+/// with CanBePrefix, the deadline of the want, if there is one.
 #[derive(Clone, Copy)]
-struct Wanted {
-    name: usize,
-    can_be_prefix: bool,
-    deadline: u64,
-}
-
-/// The content of a repository, in two plain lists. One list has the repository's objects, as
-/// indexes into the list of all Data. The other list has the repository's wants.
-#[derive(Drop)]
 struct Plain {
-    objects: Vec<usize>,
-    wants: Vec<Wanted>,
+    objects: [bool; 10],
+    wants: [Option<u64>; 10],
 }
 
-fn written(alloc: Global, name: usize, uri: &str, content: &str) -> Option<Made> {
-    let packet = data_of(alloc, uri, content, None)?;
-    let digest = digest_of(&packet)?;
-    Some(Made {
-        name,
-        packet,
-        digest,
-    })
+/// Returns whether a Data answers Interests of a want. The number of the want is twice the number
+/// of its name, and one more with CanBePrefix.
+fn answers(data: usize, want: usize) -> bool {
+    let (of, name) = (data / 2, want / 2);
+    of == name || (want == 1 && of < 3)
 }
 
-/// Returns two Data for each name in `NAMES`.
-fn all_made(alloc: Global) -> Option<Vec<Made>> {
-    let mut all = Vec::new(alloc);
-    put_all(alloc, &mut all)?;
-    Some(all)
-}
-
-/// Appends two Data for each name in `NAMES`.
-fn put_all(alloc: Global, all: &mut Vec<Made>) -> Option<()> {
-    for (name, uri) in NAMES.iter().enumerate() {
-        put_made(alloc, all, name, uri, "01")?;
-        put_made(alloc, all, name, uri, "02")?;
-    }
-    Some(())
-}
-
-/// Appends a Data.
-fn put_made(
-    alloc: Global,
-    all: &mut Vec<Made>,
-    name: usize,
-    uri: &str,
-    content: &str,
-) -> Option<()> {
-    let made = written(alloc, name, uri, content)?;
-    all.push(made).ok()
-}
-
-/// Returns whether a Data answers an Interest with this name and this value of CanBePrefix.
-fn answers(made: &Made, name: usize, can_be_prefix: bool) -> bool {
-    made.name == name || (can_be_prefix && begins(name, made.name))
-}
-
-/// Returns the number of objects that answer an Interest with this name and this value of
-/// CanBePrefix.
-fn number(all: &[Made], plain: &Plain, name: usize, can_be_prefix: bool) -> Option<u64> {
+/// Returns the number of objects that answer the Interest of a want.
+fn number(plain: &Plain, want: usize) -> u64 {
     let mut count: u64 = 0;
-    for place in &plain.objects {
-        let is_one = answers(all.get(*place)?, name, can_be_prefix);
-        count = count.saturating_add(u64::from(is_one));
+    for (data, is_held) in plain.objects.iter().enumerate() {
+        count = count.saturating_add(u64::from(*is_held && answers(data, want)));
     }
-    Some(count)
+    count
 }
 
-/// Returns the object with the least full name among those that answer an Interest with this name
-/// and this value of CanBePrefix. Returns `Some(None)` if no object answers this Interest.
-fn least<'a>(
-    all: &'a [Made],
-    plain: &Plain,
-    name: usize,
-    can_be_prefix: bool,
-) -> Option<Option<&'a Made>> {
-    let mut least: Option<&Made> = None;
-    for place in &plain.objects {
-        let one = all.get(*place)?;
-        let is_less = match least {
-            Some(other) => {
-                (one.name, one.digest.as_slice()) < (other.name, other.digest.as_slice())
-            }
-            None => true,
-        };
-        if is_less && answers(one, name, can_be_prefix) {
-            least = Some(one);
+/// Returns the object with the least full name among those that answer the Interest of a want.
+fn least(plain: &Plain, want: usize) -> Option<usize> {
+    for (data, is_held) in plain.objects.iter().enumerate() {
+        if *is_held && answers(data, want) {
+            return Some(data);
         }
     }
-    Some(least)
+    None
 }
 
-fn has_want(plain: &Plain, name: usize, can_be_prefix: bool) -> bool {
-    plain.wants.iter().any(|want| want.name == name && want.can_be_prefix == can_be_prefix)
-}
-
-/// Removes the want with this name and this value of CanBePrefix.
-fn forget_want(plain: &mut Plain, name: usize, can_be_prefix: bool) {
-    plain.wants.retain(|want| want.name != name || want.can_be_prefix != can_be_prefix);
-}
-
-/// Applies a command to the plain lists, and returns its expected status and count.
-fn expected(all: &[Made], plain: &mut Plain, verb: &str, asked: Wanted) -> Option<(u16, u64)> {
-    let (name, flag) = (asked.name, asked.can_be_prefix);
-    let count = number(all, plain, name, flag)?;
-    let wanted = has_want(plain, name, flag);
-    if verb == "delete" {
-        forget_want(plain, name, flag);
-        plain.objects.retain(|place| all.get(*place).is_none_or(|one| !answers(one, name, flag)));
-        let status = if count > 0 || wanted { 200 } else { 404 };
-        return Some((status, count));
+/// Replaces the deadline of a want. Returns whether there was a want.
+fn set(plain: &mut Plain, want: usize, deadline: Option<u64>) -> bool {
+    match plain.wants.get_mut(want) {
+        Some(place) => {
+            let was = place.is_some();
+            *place = deadline;
+            was
+        }
+        None => false,
     }
-    if count > 0 {
-        return Some((200, count));
+}
+
+/// Removes the objects that answer the Interest of a want.
+fn delete(plain: &mut Plain, want: usize) {
+    for (data, is_held) in plain.objects.iter_mut().enumerate() {
+        if answers(data, want) {
+            *is_held = false;
+        }
     }
-    if verb == "check" {
-        return Some((if wanted { 100 } else { 404 }, 0));
+}
+
+/// Applies a command to the arrays: 0 is a delete, 1 a check, and 2 an insert. Returns the expected
+/// status and count.
+fn expected(plain: &mut Plain, verb: usize, want: usize, deadline: u64) -> (u16, u64) {
+    let count = number(plain, want);
+    let is_wanted = matches!(plain.wants.get(want), Some(Some(_)));
+    match verb {
+        0 => {
+            set(plain, want, None);
+            delete(plain, want);
+            (if count > 0 || is_wanted { 200 } else { 404 }, count)
+        }
+        _ if count > 0 => (200, count),
+        1 => (if is_wanted { 100 } else { 404 }, 0),
+        _ => {
+            set(plain, want, Some(deadline));
+            (100, 0)
+        }
     }
-    forget_want(plain, name, flag);
-    plain.wants.push(asked).ok()?;
-    Some((100, 0))
 }
 
-/// Returns the text of an Interest: the name, a `*` if the Interest has CanBePrefix, and `mark`.
-fn asked_text(alloc: Global, name: usize, can_be_prefix: bool, mark: &str) -> Option<String> {
-    let uri = NAMES.get(name)?;
-    let star = if can_be_prefix { "*" } else { "" };
-    format!(in alloc; "{uri}{star}{mark}").ok()
-}
-
-/// Applies a command to the repository, and returns its status and its count.
-fn command_reply(
-    alloc: Global,
-    repo: &mut Repo,
-    verb: &str,
-    wanted: Wanted,
-    now: u64,
-    lifetime: u64,
-) -> Option<(u16, u64)> {
-    let asked = asked_text(alloc, wanted.name, wanted.can_be_prefix, "")?;
-    let command = command_on(alloc, verb, &asked, Some(lifetime))?;
-    status_and_count(repo, command.view(), now)
-}
-
-/// Applies a random command to the repository and to the plain lists. Returns whether both give the
-/// same status and the same count.
+/// Applies a random command to the repository and to the arrays. Returns whether both give the same
+/// status and the same count.
 fn command_agrees(
-    alloc: Global,
-    all: &[Made],
     repo: &mut Repo,
     plain: &mut Plain,
+    commands: &mut [u8],
     state: &mut u64,
 ) -> Option<bool> {
-    let verb = match random(state, 5) {
-        0 => "delete",
-        1 => "check",
-        _ => "insert",
-    };
-    let (name, flag) = (random(state, 5) as usize, random(state, 2) == 1);
+    let verb = random(state, 5).min(2) as usize;
+    let want = random(state, 10) as usize;
     let (now, lifetime) = (random(state, 20), random(state, 20));
-    let wanted = Wanted {
-        name,
-        can_be_prefix: flag,
-        deadline: now.saturating_add(lifetime),
-    };
-    let reply = command_reply(alloc, repo, verb, wanted, now, lifetime)?;
-    Some(reply == expected(all, plain, verb, wanted)?)
+    let command = commands
+        .chunks_exact_mut(COMMAND_LEN)
+        .nth(verb.saturating_mul(10).saturating_add(want))?;
+    *command.get_mut(LIFETIME)? = u8::try_from(lifetime).ok()?;
+    let reply = status_and_count(repo, Name::read(command).ok()?, now)?;
+    Some(reply == expected(plain, verb, want, now.saturating_add(lifetime)))
 }
 
-/// Offers a random Data to the repository and to the plain lists. Returns whether both agree on
-/// whether the Data answers a want.
-fn offer_agrees(all: &[Made], repo: &mut Repo, plain: &mut Plain, state: &mut u64) -> Option<bool> {
-    let place = random(state, 10) as usize;
-    let one = all.get(place)?;
-    let data = data_in(&one.packet)?;
-    let before = plain.wants.len();
-    plain
-        .wants
-        .retain(|want| !answers(one, want.name, want.can_be_prefix));
-    let is_filled = plain.wants.len() != before;
-    if is_filled {
-        plain.objects.retain(|other| *other != place);
-        plain.objects.push(place).ok()?;
+/// Removes the wants that a Data answers. If there are any, stores the Data. Returns whether there
+/// are any.
+fn fill(plain: &mut Plain, data: usize) -> bool {
+    let mut is_filled = false;
+    for (want, deadline) in plain.wants.iter_mut().enumerate() {
+        if deadline.is_some() && answers(data, want) {
+            *deadline = None;
+            is_filled = true;
+        }
     }
-    Some(repo.offer(&data).ok()? == is_filled)
+    if is_filled && let Some(is_held) = plain.objects.get_mut(data) {
+        *is_held = true;
+    }
+    is_filled
 }
 
-/// Returns whether the repository serves `expected` for the Interest in `packet`. If `expected` is
-/// `None`, the repository must serve nothing.
-fn is_served(repo: &Repo, packet: &[u8], expected: Option<&[u8]>) -> Option<bool> {
-    let interest = interest_in(packet)?;
+/// Offers a random Data to the repository and to the arrays. Returns whether both agree on whether
+/// the Data answers a want.
+fn offer_agrees(repo: &mut Repo, plain: &mut Plain, data: &[u8], state: &mut u64) -> Option<bool> {
+    let at = random(state, 10) as usize;
+    let packet = data.chunks_exact(DATA_LEN).nth(at)?;
+    let is_filled = fill(plain, at);
+    Some(repo.offer(&data_in(packet)?).ok()? == is_filled)
+}
+
+/// Returns the Interest that `packet` encodes.
+fn interest_in(packet: &[u8]) -> Option<Interest<'_>> {
+    match read_frame(packet) {
+        Ok(Frame::Interest(interest)) => Some(interest),
+        _ => None,
+    }
+}
+
+/// Returns whether the repository and the arrays agree on which Data is served for a random
+/// Interest.
+fn serve_agrees(
+    repo: &Repo,
+    plain: &Plain,
+    data: &[u8],
+    interests: &[u8],
+    state: &mut u64,
+) -> Option<bool> {
+    let at = random(state, 20) as usize;
+    let interest = interest_in(interests.chunks_exact(INTEREST_LEN).nth(at)?)?;
+    let expected = match least(plain, at / 2) {
+        Some(at) => data.chunks_exact(DATA_LEN).nth(at),
+        None => None,
+    };
     Some(repo.serve(&interest) == expected)
 }
 
-/// Returns whether the repository and the plain lists agree on which Data is served for a random
-/// Interest.
-fn serve_agrees(
-    alloc: Global,
-    all: &[Made],
-    repo: &Repo,
-    plain: &Plain,
-    state: &mut u64,
-) -> Option<bool> {
-    let (name, flag) = (random(state, 5) as usize, random(state, 2) == 1);
-    let fresh_mark = if random(state, 2) == 1 { "!" } else { "" };
-    let expected = match least(all, plain, name, flag)? {
-        Some(one) => Some(one.packet.as_slice()),
-        None => None,
-    };
-    let asked = asked_text(alloc, name, flag, fresh_mark)?;
-    let packet = asking(alloc, &asked)?;
-    is_served(repo, &packet, expected)
+/// Removes the wants whose deadline has come.
+fn expire(plain: &mut Plain, now: u64) {
+    for deadline in plain.wants.iter_mut() {
+        if let Some(moment) = *deadline
+            && moment <= now
+        {
+            *deadline = None;
+        }
+    }
 }
 
-/// Returns whether the repository and the plain lists agree on a random call.
+/// Returns whether the repository and the arrays agree on a random call.
 fn call_agrees(
-    alloc: Global,
-    all: &[Made],
     repo: &mut Repo,
     plain: &mut Plain,
+    data: &[u8],
+    interests: &[u8],
+    commands: &mut [u8],
     state: &mut u64,
 ) -> Option<bool> {
     match random(state, 8) {
-        0 => serve_agrees(alloc, all, repo, plain, state),
+        0 => serve_agrees(repo, plain, data, interests, state),
         1 => {
             let now = random(state, 30);
-            plain.wants.retain(|want| want.deadline > now);
+            expire(plain, now);
             repo.expire(now);
             Some(true)
         }
-        2 | 3 => offer_agrees(all, repo, plain, state),
-        _ => command_agrees(alloc, all, repo, plain, state),
+        2 | 3 => offer_agrees(repo, plain, data, state),
+        _ => command_agrees(repo, plain, commands, state),
     }
 }
 
-/// Returns whether the repository and the plain lists agree on ten random calls.
-fn calls_agree(
-    alloc: Global,
-    all: &[Made],
+/// Returns whether an empty repository and empty arrays agree on ten random calls.
+fn sequence_agrees(
     repo: &mut Repo,
-    plain: &mut Plain,
+    data: &[u8],
+    interests: &[u8],
+    commands: &mut [u8],
     state: &mut u64,
-) -> Option<bool> {
+) -> bool {
+    let mut plain = Plain {
+        objects: [false; 10],
+        wants: [None; 10],
+    };
     for _ in 0..10 {
-        if !call_agrees(alloc, all, repo, plain, state)? {
-            return Some(false);
+        if call_agrees(repo, &mut plain, data, interests, commands, state) != Some(true) {
+            return false;
         }
     }
-    Some(true)
+    true
 }
 
-/// Returns whether an empty repository and empty plain lists agree on ten random calls.
-fn sequence_agrees(alloc: Global, all: &[Made], state: &mut u64) -> Option<bool> {
-    let mut repo = empty_repo(alloc)?;
-    let mut plain = Plain {
-        objects: Vec::new(alloc),
-        wants: Vec::new(alloc),
-    };
-    calls_agree(alloc, all, &mut repo, &mut plain, state)
+/// Returns whether an empty repository and empty arrays agree, or false if memory runs out.
+fn repo_agrees(
+    alloc: Global,
+    data: &[u8],
+    interests: &[u8],
+    commands: &mut [u8],
+    state: &mut u64,
+) -> bool {
+    match empty_repo(alloc) {
+        Some(mut repo) => sequence_agrees(&mut repo, data, interests, commands, state),
+        None => false,
+    }
 }
 
-/// Returns whether the repository and the plain lists agree on ten thousand sequences of calls.
-fn all_agree(alloc: Global) -> Option<bool> {
-    let all = all_made(alloc)?;
-    sequences_agree(alloc, &all)
-}
-
-/// Returns whether the repository and the plain lists agree on ten thousand sequences of calls with
-/// these Data.
-fn sequences_agree(alloc: Global, all: &[Made]) -> Option<bool> {
+/// Returns whether ten thousand sequences of calls with these octets agree.
+fn sequences_agree(alloc: Global, data: &[u8], interests: &[u8], commands: &mut [u8]) -> bool {
     let mut state = 0x2545_f491_4f6c_dd1d;
     for _ in 0..10_000 {
-        if !sequence_agrees(alloc, all, &mut state)? {
-            return Some(false);
+        if !repo_agrees(alloc, data, interests, commands, &mut state) {
+            return false;
         }
     }
-    Some(true)
+    true
+}
+
+/// Returns whether the repository and the arrays agree on ten thousand sequences of calls.
+fn all_agree(alloc: Global) -> Option<bool> {
+    let data = octets(alloc, DATA)?;
+    let interests = octets(alloc, INTERESTS)?;
+    let mut commands = octets(alloc, COMMANDS)?;
+    Some(sequences_agree(alloc, &data, &interests, &mut commands))
 }
 
 #[test]

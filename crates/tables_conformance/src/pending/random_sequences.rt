@@ -1,113 +1,134 @@
-//! Random calls on a table. The answers are compared with the answers of plain lists of records.
-//! For each answer, these lists are searched from end to end.
+//! Random calls on a table. The answers are compared with the answers of plain arrays of records.
+//! For each answer, these arrays are searched from end to end. An independent program made the
+//! Data.
 
-use super::{OwnedKey, Table, data_at, faces_answered};
+use super::{Table, key_of};
 use ndn_packets::*;
 use pit_fib::*;
 use std::alloc::Global;
 use test_support::random;
 
-/// Keys. The last key selects one Data by its digest.
-const KEYS: [&str; 6] = [
-    "/A",
-    "/A+p",
-    "/A+f",
-    "/A/B",
-    "/+p",
-    "/A/sha256digest=2d92a383706a615fe67c9a585b00f29c5c06d2abdaec456e9cdc026679eb2479",
-];
+/// Returns the octets of the name, and the flags, of the key with this number. The keys are `/A`,
+/// `/A` with CanBePrefix, `/A` with MustBeFresh, `/A/B`, `/` with CanBePrefix, and the full name of
+/// the Data `/A`.
+fn key_at(at: usize) -> Option<Key<'static>> {
+    match at {
+        0 => key_of(b"\x08\x01\x41", 0),
+        1 => key_of(b"\x08\x01\x41", 2),
+        2 => key_of(b"\x08\x01\x41", 1),
+        3 => key_of(b"\x08\x01\x41\x08\x01\x42", 0),
+        4 => key_of(b"", 2),
+        _ => key_of(
+            b"\x08\x01\x41\x01\x20\x2d\x92\xa3\x83\x70\x6a\x61\x5f\xe6\x7c\x9a\x58\x5b\x00\xf2\x9c\x5c\x06\xd2\xab\xda\xec\x45\x6e\x9c\xdc\x02\x66\x79\xeb\x24\x79",
+            0,
+        ),
+    }
+}
 
-/// Names of Data. Each name has a flag for each key in `KEYS`. The flag tells whether the Data that
-/// `data_at` returns for this name answers an Interest under this key.
-const ANSWERED: [(&str, [bool; 6]); 3] = [
-    ("/A", [true, true, true, false, true, true]),
-    ("/A/B", [false, true, false, true, true, false]),
-    ("/B", [false, false, false, false, true, false]),
-];
+/// Returns the Data with this number: `/A`, `/A/B` or `/B`.
+fn data_at(at: u64) -> &'static [u8] {
+    match at {
+        0 =>
+            b"\x06\x2e\x07\x03\x08\x01\x41\x15\x00\x16\x03\x1b\x01\x00\x17\x20\x5c\x43\x9a\xb8\x93\x8d\x3e\x9e\x25\x03\x16\xcb\xe5\x70\xd3\x6f\x87\x86\xba\x25\xbc\x6c\xc7\xb3\x76\x07\x30\x7c\x65\xe6\x22\x70",
+        1 =>
+            b"\x06\x31\x07\x06\x08\x01\x41\x08\x01\x42\x15\x00\x16\x03\x1b\x01\x00\x17\x20\xfd\xd1\xe1\xa7\x42\x29\x3a\xc0\x03\x73\xcd\x92\xbb\x46\x2e\x72\x11\xbe\xcd\x65\x46\x70\x8c\x43\xc9\x01\xac\xf8\xa9\xaf\x32\x65",
+        _ =>
+            b"\x06\x2e\x07\x03\x08\x01\x42\x15\x00\x16\x03\x1b\x01\x00\x17\x20\x7e\xc8\xe9\x39\x9f\x05\x3d\x41\xf4\xe9\x09\x64\x60\x5c\x56\x37\x3d\x14\xc5\x78\x7c\x26\xf3\xf5\xe1\xb2\x64\x3a\x05\xf7\x38\x3d",
+    }
+}
 
+/// Returns whether the Data with the number `at` answers an Interest under the key with the number
+/// `key`.
+fn is_answered(at: u64, key: usize) -> bool {
+    match at {
+        0 => key != 3,
+        1 => key == 1 || key == 3 || key == 4,
+        _ => key == 4,
+    }
+}
+
+/// An in-record.
 #[derive(Clone, Copy)]
-struct Asks {
-    key: usize,
-    face: u64,
+struct Ask {
     nonce: u64,
     deadline: u64,
 }
 
+/// An out-record.
 #[derive(Clone, Copy)]
-struct Asked {
-    key: usize,
-    face: u64,
+struct Sent {
     nonce: u64,
     moment: u64,
     reason: Option<u64>,
 }
 
-/// The in-records `asks` and the out-records `asked`, in no particular order.
-#[derive(Drop)]
-struct Records {
-    asks: Vec<Asks>,
-    asked: Vec<Asked>,
+/// The in-records and the out-records of a key, by the numbers of three faces.
+#[derive(Clone, Copy)]
+struct Entry {
+    asks: [Option<Ask>; 3],
+    sent: [Option<Sent>; 3],
 }
 
-fn octets_of(nonce: u64) -> [u8; 4] {
-    u32::try_from(nonce).unwrap_or(0).to_be_bytes()
-}
-
-/// Returns whether one of these Interests is under this key.
-fn has_key(asks: &[Asks], key: usize) -> bool {
-    for ask in asks {
-        if ask.key == key {
-            return true;
+impl Entry {
+    /// Returns an entry without records.
+    fn new() -> Entry {
+        Entry {
+            asks: [None; 3],
+            sent: [None; 3],
         }
     }
-    false
-}
 
-impl Records {
-    /// Removes the out-records of each key under which no Interest is pending.
-    fn settle(&mut self) {
-        let asks = &self.asks;
-        self.asked.retain(|sent| has_key(asks, sent.key));
+    fn ask_of(&self, face: usize) -> Option<Ask> {
+        *self.asks.get(face)?
     }
 
-    /// Returns the Interest of a face under a key, or `None` if there is no such Interest.
-    fn ask_of(&self, key: usize, face: u64) -> Option<Asks> {
+    fn sent_to(&self, face: usize) -> Option<Sent> {
+        *self.sent.get(face)?
+    }
+
+    fn set_ask(&mut self, face: usize, ask: Option<Ask>) {
+        if let Some(place) = self.asks.get_mut(face) {
+            *place = ask;
+        }
+    }
+
+    fn set_sent(&mut self, face: usize, sent: Option<Sent>) {
+        if let Some(place) = self.sent.get_mut(face) {
+            *place = sent;
+        }
+    }
+
+    /// Returns whether an Interest is pending.
+    fn is_pending(&self) -> bool {
         for ask in &self.asks {
-            if ask.key == key && ask.face == face {
-                return Some(*ask);
-            }
-        }
-        None
-    }
-
-    /// Returns the moment at which an Interest under a key was last sent to a face, or `None` if
-    /// the key has no out-record for the face.
-    fn moment_of(&self, key: usize, face: u64) -> Option<u64> {
-        for sent in &self.asked {
-            if sent.key == key && sent.face == face {
-                return Some(sent.moment);
-            }
-        }
-        None
-    }
-
-    /// Returns whether an out-record of a key has this Nonce.
-    fn was_sent(&self, key: usize, nonce: u64) -> bool {
-        for sent in &self.asked {
-            if sent.key == key && sent.nonce == nonce {
+            if ask.is_some() {
                 return true;
             }
         }
         false
     }
 
-    /// Returns false if the Nonce is in the in-record of `face` under the key. Otherwise returns
-    /// whether the Nonce is in an out-record of the key or in the in-record of another face.
-    fn loops(&self, key: usize, face: u64, nonce: u64) -> bool {
-        let mut is_known = self.was_sent(key, nonce);
-        for ask in &self.asks {
-            if ask.key == key && ask.nonce == nonce {
-                if ask.face == face {
+    /// Returns whether an out-record has this Nonce.
+    fn was_sent(&self, nonce: u64) -> bool {
+        for sent in &self.sent {
+            if let Some(sent) = sent
+                && sent.nonce == nonce
+            {
+                return true;
+            }
+        }
+        false
+    }
+
+    /// Returns false if the Nonce is in the in-record of `face`. Otherwise returns whether the
+    /// Nonce is in an out-record or in the in-record of another face.
+    fn loops(&self, face: usize, nonce: u64) -> bool {
+        let mut is_known = self.was_sent(nonce);
+        for (asker, ask) in self.asks.iter().enumerate() {
+            if let Some(ask) = ask
+                && ask.nonce == nonce
+            {
+                if asker == face {
                     return false;
                 }
                 is_known = true;
@@ -116,62 +137,23 @@ impl Records {
         is_known
     }
 
-    /// Removes the Interest of a face under a key.
-    fn withdraw(&mut self, key: usize, face: u64) {
-        self.asks.retain(|ask| ask.key != key || ask.face != face);
-    }
-
-    /// Removes the Interests under a key.
-    fn remove(&mut self, key: usize) {
-        self.asks.retain(|ask| ask.key != key);
-    }
-
     /// Removes the Interests whose deadline has come.
     fn expire(&mut self, now: u64) {
-        self.asks.retain(|ask| now < ask.deadline);
-    }
-
-    /// Removes all records of a face.
-    fn close_face(&mut self, face: u64) {
-        self.asks.retain(|ask| ask.face != face);
-        self.asked.retain(|sent| sent.face != face);
-    }
-
-    /// Removes the Interests whose key is set in `answered`.
-    fn satisfy(&mut self, answered: &[bool]) {
-        self.asks.retain(|ask| answered.get(ask.key) != Some(&true));
-    }
-
-    fn arrive(&mut self, one: Asks) -> Option<()> {
-        self.withdraw(one.key, one.face);
-        self.asks.push(one).ok()
-    }
-
-    fn sent(&mut self, one: Asked) -> Option<()> {
-        self.asked
-            .retain(|sent| sent.key != one.key || sent.face != one.face);
-        self.asked.push(one).ok()
-    }
-
-    /// Returns whether the last Interest under the key that was sent to the face has the Nack's
-    /// Nonce. If so, also records the reason of the Nack.
-    fn note(&mut self, key: usize, face: u64, nonce: u64, reason: u64) -> bool {
-        let mut is_pending = false;
-        for sent in &mut self.asked[..] {
-            if sent.key == key && sent.face == face && sent.nonce == nonce {
-                sent.reason = Some(reason);
-                is_pending = true;
+        for ask in self.asks.iter_mut() {
+            if let Some(Ask { deadline, .. }) = *ask
+                && deadline <= now
+            {
+                *ask = None;
             }
         }
-        is_pending
     }
 
-    /// Returns `Waiting` if some out-record of the key has no reason of a Nack. Otherwise returns
-    /// `All` with the least reason in the out-records of the key.
-    fn least_reason(&self, key: usize) -> Nacked {
+    /// Returns `Waiting` if some out-record has no reason of a Nack. Otherwise returns `All` with
+    /// the least reason in the out-records.
+    fn least_reason(&self) -> Nacked {
         let mut least = u64::MAX;
-        for sent in &self.asked {
-            if sent.key == key {
+        for sent in &self.sent {
+            if let Some(sent) = sent {
                 let Some(reason) = sent.reason else {
                     return Nacked::Waiting;
                 };
@@ -181,72 +163,88 @@ impl Records {
         Nacked::All(least)
     }
 
-    fn nacked(&mut self, key: usize, face: u64, nonce: u64, reason: u64) -> Nacked {
-        if !self.note(key, face, nonce, reason) {
-            return Nacked::NoPending;
-        }
-        self.least_reason(key)
-    }
-
-    /// Returns the number of keys under which an Interest is pending.
-    fn len(&self) -> usize {
-        let mut len: usize = 0;
-        for key in 0..6 {
-            if has_key(&self.asks, key) {
-                len = len.saturating_add(1);
+    /// Records a Nack, and returns its expected result.
+    fn nacked(&mut self, face: usize, nonce: u64, reason: u64) -> Nacked {
+        match self.sent_to(face) {
+            Some(sent) if sent.nonce == nonce => {
+                let reason = Some(reason);
+                self.set_sent(face, Some(Sent { reason, ..sent }));
+                self.least_reason()
             }
+            _ => Nacked::NoPending,
         }
-        len
     }
 }
 
-/// Returns true if `octets` are the Nonce of the Interest `ask`, or if `octets` and `ask` are both
-/// `None`.
-fn is_same(octets: Option<&[u8]>, ask: Option<Asks>) -> bool {
-    match (octets, ask) {
+/// The entries of the six keys.
+type Records = [Entry; 6];
+
+fn octets_of(nonce: u64) -> [u8; 4] {
+    u32::try_from(nonce).unwrap_or(0).to_be_bytes()
+}
+
+/// Removes the out-records of each key under which no Interest is pending.
+fn settle(records: &mut Records) {
+    for entry in records.iter_mut() {
+        if !entry.is_pending() {
+            *entry = Entry::new();
+        }
+    }
+}
+
+/// Returns whether the table and the entry have the same pending Interest of the face, and the same
+/// moment at which an Interest was last sent to the face.
+fn shows(table: &Table, entry: &Entry, key: Key<'_>, face: usize) -> bool {
+    let is_asked = match (table.pit.interest_of(key, face as u64), entry.ask_of(face)) {
         (Some(octets), Some(ask)) => octets == octets_of(ask.nonce).as_slice(),
         (None, None) => true,
         _ => false,
-    }
+    };
+    let moment = match entry.sent_to(face) {
+        Some(sent) => Some(sent.moment),
+        None => None,
+    };
+    is_asked && table.pit.used(key).get(face as u64) == moment
 }
 
-/// For a key and a face, returns whether the table and `records` have the same pending Interest of
-/// the face and the same moment at which an Interest was last sent to the face.
-fn shows(table: &Table, records: &Records, at: usize, key: Key<'_>, face: u64) -> bool {
-    is_same(table.pit.interest_of(key, face), records.ask_of(at, face))
-        && table.pit.used(key).get(face) == records.moment_of(at, face)
+/// Returns whether `shows` returns true for a key and all faces.
+fn shows_faces(table: &Table, entry: &Entry, at: usize) -> bool {
+    let Some(key) = key_at(at) else {
+        return false;
+    };
+    shows(table, entry, key, 0) && shows(table, entry, key, 1) && shows(table, entry, key, 2)
 }
 
-/// Returns whether `shows` returns true for all keys and faces, and the table and `records` have
+/// Returns whether `shows` returns true for all keys and faces, and the table and the records have
 /// pending Interests under the same number of keys.
-fn shows_all(table: &Table, records: &Records, keys: &[OwnedKey]) -> bool {
-    for (at, key) in keys.iter().enumerate() {
-        for face in 0..3 {
-            if !shows(table, records, at, key.view(), face) {
-                return false;
-            }
+fn shows_all(table: &Table, records: &Records) -> bool {
+    let mut len: usize = 0;
+    for (at, entry) in records.iter().enumerate() {
+        if !shows_faces(table, entry, at) {
+            return false;
         }
+        len = len.saturating_add(usize::from(entry.is_pending()));
     }
-    table.pit.len() == records.len()
+    table.pit.len() == len
 }
 
-/// Returns whether a face has a pending Interest whose key is set in `answered`.
-fn is_asking(records: &Records, answered: &[bool], face: u64) -> bool {
-    for ask in &records.asks {
-        if ask.face == face && answered.get(ask.key) == Some(&true) {
+/// Returns whether a face has a pending Interest that the Data answers.
+fn is_asking(records: &Records, data: u64, face: usize) -> bool {
+    for (key, entry) in records.iter().enumerate() {
+        if is_answered(data, key) && entry.ask_of(face).is_some() {
             return true;
         }
     }
     false
 }
 
-/// Returns whether `faces` are exactly those of the three faces that have a pending Interest whose
-/// key is set in `answered`.
-fn are_asking(records: &Records, answered: &[bool], faces: &Faces) -> bool {
+/// Returns whether `faces` are exactly those of the three faces that have a pending Interest which
+/// the Data answers.
+fn are_asking(records: &Records, data: u64, faces: &Faces) -> bool {
     let mut asking: usize = 0;
     for face in 0..3 {
-        let asks = is_asking(records, answered, face);
-        if faces.contains(face) != asks {
+        let asks = is_asking(records, data, face);
+        if faces.contains(face as u64) != asks {
             return false;
         }
         asking = asking.saturating_add(usize::from(asks));
@@ -254,18 +252,23 @@ fn are_asking(records: &Records, answered: &[bool], faces: &Faces) -> bool {
     faces.len() == asking
 }
 
+/// Removes the Interests that the Data answers.
+fn satisfy(records: &mut Records, data: u64) {
+    for (key, entry) in records.iter_mut().enumerate() {
+        if is_answered(data, key) {
+            entry.asks = [None; 3];
+        }
+    }
+}
+
 /// Returns whether the table and the records agree on the faces to which a Data is sent.
-fn satisfy_agrees(
-    table: &mut Table,
-    records: &mut Records,
-    packets: &[Vec<u8>],
-    at: usize,
-) -> Option<bool> {
-    let (_, answered) = ANSWERED.get(at)?;
-    let faces = faces_answered(table, packets.get(at)?)?;
-    let agrees = are_asking(records, answered, &faces);
-    records.satisfy(answered);
-    Some(agrees)
+fn satisfy_agrees(table: &mut Table, records: &mut Records, at: u64) -> bool {
+    let Ok(Frame::Data(data)) = read_frame(data_at(at)) else {
+        return false;
+    };
+    let agrees = are_asking(records, at, &table.satisfy(&data));
+    satisfy(records, at);
+    agrees
 }
 
 /// How often a Nack had the result `Waiting`, how often it had the result `All`, and how often an
@@ -277,202 +280,184 @@ struct Seen {
     loops: u64,
 }
 
-/// Counts a result of a Nack.
-fn count_answer(seen: &mut Seen, answer: Nacked) {
+/// A random call: a face, a Nonce, and a moment, a deadline or a reason.
+#[derive(Clone, Copy)]
+struct Call {
+    face: usize,
+    nonce: u64,
+    moment: u64,
+}
+
+/// Returns whether the table and the entry agree on the result of a Nack.
+fn nack_agrees(
+    table: &mut Table,
+    entry: &mut Entry,
+    seen: &mut Seen,
+    key: Key<'_>,
+    call: Call,
+) -> bool {
+    let answer = entry.nacked(call.face, call.nonce, call.moment);
     match answer {
         Nacked::NoPending => {}
         Nacked::Waiting => seen.waiting = seen.waiting.saturating_add(1),
         Nacked::All(_) => seen.all = seen.all.saturating_add(1),
     }
+    table.nacked(key, call.face as u64, octets_of(call.nonce), call.moment) == answer
 }
 
-/// Returns whether the table and the records agree on the result of a Nack. The field `moment` of
-/// `one` is the reason of the Nack.
-fn nack_agrees(
-    table: &mut Table,
-    records: &mut Records,
-    seen: &mut Seen,
-    key: Key<'_>,
-    one: Asked,
-) -> bool {
-    let answer = records.nacked(one.key, one.face, one.nonce, one.moment);
-    count_answer(seen, answer);
-    table.nacked(key, one.face, octets_of(one.nonce), one.moment) == answer
-}
-
-/// Returns whether the table and the records agree on whether an Interest loops.
-fn loop_agrees(
-    table: &Table,
-    records: &Records,
-    seen: &mut Seen,
-    key: Key<'_>,
-    one: Asked,
-) -> bool {
-    let loops = records.loops(one.key, one.face, one.nonce);
-    if loops {
-        seen.loops = seen.loops.saturating_add(1);
-    }
-    table.pit.loops(key, one.face, octets_of(one.nonce)) == loops
-}
-
-/// Compares the table and the records on whether an Interest loops, and then records the Interest
-/// in both. Returns whether the table and the records agree, and the table accepts the Interest.
-/// The field `moment` of `one` is the deadline of the Interest.
+/// Compares the table and the entry on whether an Interest loops, and then records the Interest in
+/// both. Returns whether the table and the entry agree, and the table accepts the Interest.
 fn ask_agrees(
     table: &mut Table,
-    records: &mut Records,
+    entry: &mut Entry,
     seen: &mut Seen,
     key: Key<'_>,
-    one: Asked,
-) -> Option<bool> {
-    let agrees = loop_agrees(table, records, seen, key, one);
-    let refused = table.ask(key, one.face, octets_of(one.nonce), one.moment);
-    records.arrive(Asks {
-        key: one.key,
-        face: one.face,
-        nonce: one.nonce,
-        deadline: one.moment,
-    })?;
-    Some(agrees && refused.is_none())
+    call: Call,
+) -> bool {
+    let (face, nonce) = (call.face as u64, octets_of(call.nonce));
+    let loops = entry.loops(call.face, call.nonce);
+    seen.loops = seen.loops.saturating_add(u64::from(loops));
+    let agrees = table.pit.loops(key, face, nonce) == loops;
+    entry.set_ask(
+        call.face,
+        Some(Ask {
+            nonce: call.nonce,
+            deadline: call.moment,
+        }),
+    );
+    agrees && table.ask(key, face, nonce, call.moment).is_none()
 }
 
-/// Runs a `sent` call, and returns whether the table and the records agree. The table must record
-/// the sending exactly if the records have a pending Interest of the face `asker` under the key.
+/// Runs a `sent` call, and returns whether the table and the entry agree. The table must record the
+/// sending exactly if the entry has a pending Interest of the face `asker`.
 fn sent_agrees(
     table: &mut Table,
-    records: &mut Records,
+    entry: &mut Entry,
     key: Key<'_>,
-    asker: u64,
-    one: Asked,
-) -> Option<bool> {
-    let asks = records.ask_of(one.key, asker).is_some();
+    asker: usize,
+    call: Call,
+) -> bool {
+    let asks = entry.ask_of(asker).is_some();
     if asks {
-        records.sent(one)?;
+        entry.set_sent(
+            call.face,
+            Some(Sent {
+                nonce: call.nonce,
+                moment: call.moment,
+                reason: None,
+            }),
+        );
     }
-    Some(table.sent(key, asker, one.face, octets_of(one.nonce), one.moment) == asks)
+    let (face, nonce) = (call.face as u64, octets_of(call.nonce));
+    table.sent(key, asker as u64, face, nonce, call.moment) == asks
 }
 
 /// Makes the same removal in the table and in the records. The number `removal` selects the kind of
 /// removal.
-fn remove(table: &mut Table, records: &mut Records, key: Key<'_>, removal: u64, one: Asked) {
+fn remove(
+    table: &mut Table,
+    records: &mut Records,
+    at: usize,
+    key: Key<'_>,
+    removal: u64,
+    call: Call,
+) {
+    let face = call.face as u64;
     match removal {
         0 => {
-            table.withdraw(key, one.face);
-            records.withdraw(one.key, one.face);
+            table.withdraw(key, face);
+            change(records, at, call.face, false);
         }
         1 => {
             table.remove(key);
-            records.remove(one.key);
+            if let Some(entry) = records.get_mut(at) {
+                *entry = Entry::new();
+            }
         }
         2 => {
-            table.expire(one.moment);
-            records.expire(one.moment);
+            table.expire(call.moment);
+            for entry in records.iter_mut() {
+                entry.expire(call.moment);
+            }
         }
         _ => {
-            table.close_face(one.face);
-            records.close_face(one.face);
+            table.close_face(face);
+            for at in 0..6 {
+                change(records, at, call.face, true);
+            }
         }
     }
 }
 
-/// Returns a random face, Nonce and moment, and the index of a key. The index is either `first` or
-/// the next index, chosen at random.
-fn random_call(first: u64, state: &mut u64) -> Asked {
-    let key = first.saturating_add(random(state, 2)) as usize;
-    let (face, nonce, moment) = (random(state, 3), random(state, 2), random(state, 20));
-    Asked {
-        key,
-        face,
-        nonce,
-        moment,
-        reason: None,
+/// Removes the in-record of a face under a key. If `both` is set, removes the out-record too.
+fn change(records: &mut Records, at: usize, face: usize, both: bool) {
+    if let Some(entry) = records.get_mut(at) {
+        entry.set_ask(face, None);
+        if both {
+            entry.set_sent(face, None);
+        }
     }
 }
 
 /// Runs a random call on the table and on the records. Returns whether their answers agree, and
-/// `shows` then returns true for a random face and key. The key has the index `first` or the next
-/// index, and most calls are for this key.
+/// `shows` then returns true for the face and the key of the call. The key has the number `first`
+/// or the next number.
 fn call_agrees(
     table: &mut Table,
     records: &mut Records,
-    keys: &[OwnedKey],
-    packets: &[Vec<u8>],
     seen: &mut Seen,
     first: u64,
     state: &mut u64,
 ) -> Option<bool> {
-    let one = random_call(first, state);
-    let key = keys.get(one.key)?.view();
+    let at = first.saturating_add(random(state, 2)) as usize;
+    let (face, nonce, moment) = (
+        random(state, 3) as usize,
+        random(state, 2),
+        random(state, 20),
+    );
+    let call = Call {
+        face,
+        nonce,
+        moment,
+    };
+    let key = key_at(at)?;
+    let entry = records.get_mut(at)?;
     let agrees = match random(state, 21) {
-        0..=4 => Some(nack_agrees(table, records, seen, key, one)),
-        5..=9 => ask_agrees(table, records, seen, key, one),
-        10..=15 => sent_agrees(table, records, key, random(state, 3), one),
-        16 => satisfy_agrees(table, records, packets, random(state, 3) as usize),
+        0..=4 => nack_agrees(table, entry, seen, key, call),
+        5..=9 => ask_agrees(table, entry, seen, key, call),
+        10..=15 => sent_agrees(table, entry, key, random(state, 3) as usize, call),
+        16 => satisfy_agrees(table, records, random(state, 3)),
         removal => {
-            remove(table, records, key, removal.saturating_sub(17), one);
-            Some(true)
+            remove(table, records, at, key, removal.saturating_sub(17), call);
+            true
         }
     };
-    records.settle();
-    Some(agrees? && shows(table, records, one.key, key, one.face))
+    settle(records);
+    Some(agrees && shows(table, records.get(at)?, key, face))
 }
 
-/// Returns whether 24 random calls agree with the records, and `shows_all` then returns true.
-fn calls_agree(
-    table: &mut Table,
-    records: &mut Records,
-    keys: &[OwnedKey],
-    packets: &[Vec<u8>],
-    seen: &mut Seen,
-    state: &mut u64,
-) -> Option<bool> {
+/// Returns whether 24 random calls on an empty table and on empty records agree, and `shows_all`
+/// then returns true.
+fn calls_agree(table: &mut Table, seen: &mut Seen, state: &mut u64) -> bool {
+    let mut records = [Entry::new(); 6];
     let first = random(state, 5);
     for _ in 0..24 {
-        if !call_agrees(table, records, keys, packets, seen, first, state)? {
-            return Some(false);
+        if call_agrees(table, &mut records, seen, first, state) != Some(true) {
+            return false;
         }
     }
-    Some(shows_all(table, records, keys))
+    shows_all(table, &records)
 }
 
-/// Returns whether an empty table and empty records agree on 24 random calls.
-fn sequence_agrees(
-    alloc: Global,
-    keys: &[OwnedKey],
-    packets: &[Vec<u8>],
-    seen: &mut Seen,
-    state: &mut u64,
-) -> Option<bool> {
+fn sequence_agrees(alloc: Global, seen: &mut Seen, state: &mut u64) -> bool {
     let mut table = Table::new(alloc);
-    let mut records = Records {
-        asks: Vec::new(alloc),
-        asked: Vec::new(alloc),
-    };
-    calls_agree(&mut table, &mut records, keys, packets, seen, state)
-}
-
-/// Returns the keys that `KEYS` lists.
-fn all_keys(alloc: Global) -> Option<Vec<OwnedKey>> {
-    let mut keys = Vec::new(alloc);
-    for key in &KEYS {
-        keys.push(OwnedKey::read(alloc, key)?).ok()?;
-    }
-    Some(keys)
-}
-
-/// Returns a Data for each name in `ANSWERED`.
-fn all_packets(alloc: Global) -> Option<Vec<Vec<u8>>> {
-    let mut packets = Vec::new(alloc);
-    for (uri, _) in &ANSWERED {
-        packets.push(data_at(alloc, uri)?).ok()?;
-    }
-    Some(packets)
+    calls_agree(&mut table, seen, state)
 }
 
 /// Returns whether ten thousand sequences agree with the records. Over all sequences, more than 100
 /// Nacks must have had the result `Waiting`, and more than 100 Nacks the result `All`. More than
 /// 100 Interests must have looped.
-fn sequences_agree(alloc: Global, keys: &[OwnedKey], packets: &[Vec<u8>]) -> Option<bool> {
+fn all_agree(alloc: Global) -> bool {
     let mut state = 0x2545_f491_4f6c_dd1d;
     let mut seen = Seen {
         waiting: 0,
@@ -480,21 +465,14 @@ fn sequences_agree(alloc: Global, keys: &[OwnedKey], packets: &[Vec<u8>]) -> Opt
         loops: 0,
     };
     for _ in 0..10_000 {
-        if !sequence_agrees(alloc, keys, packets, &mut seen, &mut state)? {
-            return Some(false);
+        if !sequence_agrees(alloc, &mut seen, &mut state) {
+            return false;
         }
     }
-    Some(seen.waiting > 100 && seen.all > 100 && seen.loops > 100)
-}
-
-/// Returns whether the sequences agree with the records, for all keys and packets.
-fn all_agree(alloc: Global) -> Option<bool> {
-    let keys = all_keys(alloc)?;
-    let packets = all_packets(alloc)?;
-    sequences_agree(alloc, &keys, &packets)
+    seen.waiting > 100 && seen.all > 100 && seen.loops > 100
 }
 
 #[test]
 fn random_sequences(rt: HostRuntime) {
-    assert!(rt; all_agree(rt.alloc()) == Some(true));
+    assert!(rt; all_agree(rt.alloc()));
 }
