@@ -1,11 +1,18 @@
 -- The answers of a node to a script that ends, and to a script with a bad line.
-use Rattle.std.proofs.Common.{◌≡◌, ℕ, List, [], ◌∷◌, ◌++◌, sym, ap, subst, ◌∙◌, inl, inr, None, Some}
-use Rattle.core.specs.declared.option.Option.{Option}
+use Rattle.std.proofs.Common.{◌≡◌, ℕ, List, [], ◌++◌, sym, ap, subst, ◌∙◌, inl, inr, Option, Some, Result, Ok, Err, IfOk}
 use Rattle.forwarder.specs.Node.{NodeState}
+use Rattle.forwarder.specs.Parts.{first_node}
+use Rattle.hmac_keys.specs.KeyFile.{NamedKey}
+use Rattle.hmac_keys.specs.KeyReading.{AreKeys}
+use Rattle.info_rules.specs.Rule.{PlainRule}
+use Rattle.ndn_names.specs.ReadsAs.{ReadsAs}
+use Rattle.ndn_tlv.specs.Element.{Field}
+use Rattle.node_core.specs.Files.{AreRules}
+use Rattle.scenarios.specs.declared.scenario.Scenario.{Scenario}
 use Rattle.node_core.specs.Script.{IsTextOfRun}
 use Rattle.node_core.specs.Script.Ending.{Ends, Stops}
 use Rattle.node_core.specs.declared.script.RunFault.TheVariants as fault
-use Rattle.scenarios.specs.Outcome.{AreAnswers, bad_line}
+use Rattle.scenarios.specs.Outcome.{AreAnswers, AreAnswersTo, bad_line}
 
 pub AreAnswers-whole : (node : NodeState) (script answers : List ℕ) (left : Option (List ℕ))
     → Ends node (Some script) left (Some []) (Some answers) → AreAnswers node script answers
@@ -17,3 +24,22 @@ pub AreAnswers-cut : (node : NodeState) (number : ℕ) (script written answers :
     → AreAnswers node script answers
 AreAnswers-cut node number script written answers left (events, text, run, appended, bad) e =
     inr (number, events, text, bad, run, e ∙ ap (λ l. l ++ bad_line number) appended)
+
+-- the answers of a node that was made of the parts of the scenario
+pub AreAnswersTo-parts : {V E : Type 0} (items : V → List ℕ) (scenario : Scenario) (rules : List PlainRule) (keys : List NamedKey)
+    (repo : List Field) (cache : ℕ) (script : List ℕ) (r : Result V E)
+    → AreRules scenario.rules.items rules → AreKeys scenario.keys.items keys → ReadsAs scenario.repo.items repo
+    → cache ≡ scenario.cache → script ≡ scenario.script.items
+    → IfOk r (λ answers. AreAnswers (first_node rules keys repo cache) script (items answers))
+    → IfOk r (λ answers. AreAnswersTo scenario (items answers))
+AreAnswersTo-parts items scenario rules keys repo cache script (Err e) are_rules are_keys reads same is answers = tt
+AreAnswersTo-parts items scenario rules keys repo cache script (Ok v) are_rules are_keys reads same is answers = (
+  rules,
+  keys,
+  repo,
+  are_rules,
+  are_keys,
+  reads,
+  subst (λ (s : List ℕ). AreAnswers (first_node rules keys repo scenario.cache) s (items v)) is
+      (subst (λ (c : ℕ). AreAnswers (first_node rules keys repo c) script (items v)) same answers),
+)

@@ -1,5 +1,5 @@
 -- Lines with one word, and with several words.
-use Rattle.std.proofs.Common.{◌≡◌, ◌≢◌, ℕ, List, [], ◌∷◌, ◌++◌, refl, sym, ap, ◌∙◌, append_assoc, append-nil, Bool, true, false, cond, ◌==◌, eq-eqb, arith}
+use Rattle.std.proofs.Common.{◌≡◌, ◌≢◌, ℕ, List, [], ◌∷◌, ◌++◌, sym, ap, ◌∙◌, append_assoc, append-nil, arith}
 use Rattle.scenarios.specs.declared.words.Word.{Word}
 use Rattle.node_core.specs.Script.Line.{Lacks}
 use Rattle.scenarios.specs.Words.{meaning_of, spelled_from, spelled}

@@ -1,8 +1,9 @@
 -- Texts that grow by one part after the other, and reports on one more scenario.
-use Rattle.std.proofs.Common.{◌≡◌, ℕ, ◌+◌, List, [], ◌∷◌, ◌++◌, refl, sym, ap, ◌∙◌, append_assoc, append-nil, Bool, true, false, cond, arith, ◌<◌, length, take, get_or, subst}
+use Rattle.std.proofs.Common.{◌≡◌, ℕ, ◌+◌, List, [], ◌∷◌, ◌++◌, refl, sym, ap, ◌∙◌, append_assoc, append-nil, Bool, true, false, cond, arith, ◌<◌, length, take, get_or, subst, ◌↔◌, IsTrue}
 use Rattle.std.proofs.lemmas.List.{take_more}
 use Rattle.scenarios.specs.declared.scenario.Scenario.{Scenario}
-use Rattle.scenarios.specs.Report.{Reported, AreReported}
+use Rattle.scenarios.specs.Outcome.{AreAnswersTo}
+use Rattle.scenarios.specs.Report.{IsReport, Reported, AreReported}
 
 -- one more part after the text `a`
 pub then : (old a b x y : List ℕ) → x ≡ old ++ a → y ≡ x ++ b → y ≡ old ++ (a ++ b)
@@ -73,3 +74,24 @@ State-next xs index x old now new passed differ more others ok within item (coun
         appended ∙ ap (λ l. l ++ line) grown ∙ append_assoc old lines line,
       ),
     )
+
+-- the report on one scenario
+pub Reported-line : (scenario : Scenario) (name answers found items old new : List ℕ) (passed : Bool)
+    → AreAnswersTo scenario items → name ≡ scenario.name.items → answers ≡ scenario.answers.items → found ≡ items
+    → ((line : List ℕ) × IsReport name answers found line × (new ≡ old ++ line) × (IsTrue passed ↔ (answers ≡ found)))
+    → (line : List ℕ) × Reported scenario line passed × (new ≡ old ++ line)
+Reported-line scenario name answers found items old new passed are named expected same (line, is, appended, passes) = (
+  line,
+  record {
+    found = items;
+    answers = are;
+    is_report =
+        subst (λ (n : List ℕ). IsReport n scenario.answers.items items line) named
+        (subst (λ (a : List ℕ). IsReport name a items line) expected
+        (subst (λ (f : List ℕ). IsReport name answers f line) same is));
+    passes =
+        subst (λ (a : List ℕ). IsTrue passed ↔ (a ≡ items)) expected
+        (subst (λ (f : List ℕ). IsTrue passed ↔ (answers ≡ f)) same passes);
+  },
+  appended,
+)

@@ -15,7 +15,7 @@ use Rattle.scenarios.specs.declared.scenario.Scenario.{Scenario}
 
 -- the line for a script whose line `number` is its first bad line
 abbrev pub bad_line : ℕ → List ℕ
-bad_line number = codes "! script:" ++ (decimal number ++ codes ": bad line\n")
+bad_line number = codes "! script:" ++ decimal number ++ codes ": bad line\n"
 
 -- The answers are those of the node to all events of the script, or, if the script has a bad line,
 -- those to the events before it, and then the line for the bad line.

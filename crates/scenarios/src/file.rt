@@ -154,15 +154,13 @@ fn set_options(
 ) -> Result<(), LineFault> {
     let mut rest = options;
     while let Some((option, after)) = cut_word(rest) {
-        let (value, behind) = cut_word(after).unwrap_or((after, b""));
+        let Some((value, behind)) = cut_word(after) else {
+            return set_option(alloc, scenario, words, option, after);
+        };
         set_option(alloc, scenario, words, option, value)?;
         rest = behind;
     }
-    if rest.is_empty() {
-        Ok(())
-    } else {
-        Err(LineFault::Option)
-    }
+    Err(LineFault::Option)
 }
 
 fn set_option(

@@ -1,5 +1,4 @@
 use Rattle.std.proofs.Common.{ap, ◌∙◌, ◌++◌}
-use Rattle.scenarios.specs.Words.{meaning_of}
 use Rattle.scenarios.proofs.Meanings.{spells_on, spells_last}
 use Rattle.scenarios.proofs.words.put_spelled.Goals as goal
 
