@@ -1,9 +1,10 @@
 -- Texts that grow by one part after the other, and reports on one more scenario.
-use Rattle.std.proofs.Common.{◌≡◌, ℕ, ◌+◌, List, [], ◌∷◌, ◌++◌, refl, sym, ap, ◌∙◌, append_assoc, append-nil, Bool, true, false, cond, arith, ◌<◌, length, take, get_or, subst, ◌↔◌, IsTrue}
+use Rattle.std.proofs.Common.{◌≡◌, ℕ, ◌+◌, List, [], ◌∷◌, ◌++◌, refl, sym, ap, ◌∙◌, append_assoc, append-nil, Bool, true, false, cond, arith, ◌<◌, length, take, get_or, subst, ◌↔◌, IsTrue, inr}
 use Rattle.std.proofs.lemmas.List.{take_more}
 use Rattle.scenarios.specs.declared.scenario.Scenario.{Scenario}
+use Rattle.scenarios.specs.Differ.{Differ}
 use Rattle.scenarios.specs.Outcome.{AreAnswersTo}
-use Rattle.scenarios.specs.Report.{IsReport, Reported, AreReported}
+use Rattle.scenarios.specs.Report.{IsReport, Reported, AreReported, difference_line}
 
 -- one more part after the text `a`
 pub then : (old a b x y : List ℕ) → x ≡ old ++ a → y ≡ x ++ b → y ≡ old ++ (a ++ b)
@@ -74,6 +75,13 @@ State-next xs index x old now new passed differ more others ok within item (coun
         appended ∙ ap (λ l. l ++ line) grown ∙ append_assoc old lines line,
       ),
     )
+
+-- the report on answers that differ
+pub IsReport-difference : (name expected found a b old new : List ℕ) → Differ expected found a b → (expected ≡ found → ⊥)
+    → new ≡ old ++ difference_line name a b
+    → (line : List ℕ) × IsReport name expected found line × (new ≡ old ++ line) × (IsTrue false ↔ (expected ≡ found))
+IsReport-difference name expected found a b old new differ unlike grown =
+    (difference_line name a b, inr (a, b, differ, refl), grown, ((λ t. cc t), λ same. absurd (unlike same)))
 
 -- the report on one scenario
 pub Reported-line : (scenario : Scenario) (name answers found items old new : List ℕ) (passed : Bool)

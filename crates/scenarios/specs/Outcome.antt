@@ -17,15 +17,16 @@ use Rattle.scenarios.specs.declared.scenario.Scenario.{Scenario}
 abbrev pub bad_line : ℕ → List ℕ
 bad_line number = codes "! script:" ++ decimal number ++ codes ": bad line\n"
 
--- The answers are those of the node to all events of the script, or, if the script has a bad line,
--- those to the events before it, and then the line for the bad line.
+-- The answers are possible ones of the node to all events of the script, or, if the script has a
+-- bad line, to the events before it, and then the line for the bad line. Memory may run out for an
+-- event, and the cache may lose Data.
 abbrev pub AreAnswers : NodeState → List ℕ → List ℕ → Type 0
 AreAnswers node script answers =
     ((events : List PlainEvent) × IsScript script events × IsTextOfRun node events answers)
     ⊎ ((number : ℕ) × (events : List PlainEvent) × (text : List ℕ) × IsBadAt script number events
     × IsTextOfRun node events text × (answers ≡ text ++ bad_line number))
 
--- the answers of a new node with the rules, keys, prefix and capacity of the scenario to the
+-- possible answers of a new node with the rules, keys, prefix and capacity of the scenario to the
 -- scenario's script
 abbrev pub AreAnswersTo : Scenario → List ℕ → Type 0
 AreAnswersTo scenario answers =

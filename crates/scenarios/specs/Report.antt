@@ -23,7 +23,8 @@ difference_line name a b =
     name ++ codes ": expected " ++ shown a ++ codes ", found " ++ shown b ++ codes "\n"
 
 -- The line says that the scenario passed exactly if the answers found are the expected ones.
--- Otherwise it has a line of the expected answers and the line that was found in its place.
+-- Otherwise it has the first line of the expected answers that differs, and the line that was found
+-- in its place.
 abbrev pub IsReport : List ℕ → List ℕ → List ℕ → List ℕ → Type 0
 IsReport name expected found line =
     ((expected ≡ found) × (line ≡ passed_line name))
@@ -36,9 +37,6 @@ pub record Reported (scenario : Scenario) (line : List ℕ) (passed : Bool) : Ty
   pub answers : AreAnswersTo scenario found
   pub is_report : IsReport scenario.name.items scenario.answers.items found line
   pub passes : IsTrue passed ↔ (scenario.answers.items ≡ found)
-
-abbrev pub one_if : Bool → ℕ
-one_if b = if b then 1 else 0
 
 -- the text consists of the lines of these scenarios, in order; this many of them passed, and this
 -- many differ

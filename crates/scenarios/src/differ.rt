@@ -1,6 +1,6 @@
 //! The first line in which two texts differ.
 ghost use Rattle.std.specs.Prelude.{◌≡◌, ◌≢◌, ◌<◌, ◌↔◌, [], ◌++◌, length, IfSome, IsNone};
-ghost use Rattle.scenarios.specs.Differ.{Differ};
+ghost use Rattle.scenarios.specs.Differ.{Differ, IsFirstLine};
 
 use node_core::cut_line;
 
@@ -8,11 +8,12 @@ use node_core::cut_line;
 /// no LF.
 fn first_line(text: &[u8]) -> (&[u8], &[u8])
     ensures parts { text.now ≡ result.0.now ++ result.1.now }
+    ensures line { IsFirstLine result.0.now result.1.now }
     ensures progress { 0 < length text.now → 0 < length result.0.now }
 {
     match cut_line(text) {
-        Some((line, _)) => text.split_at(line.len() + 1),
-        None => text.split_at(text.len()),
+        Some((line, rest)) => (&text[..line.len() + 1], rest),
+        None => (text, &[]),
     }
 }
 

@@ -85,7 +85,7 @@ impl Reading {
             Some((b"file", name)) => self.add_word(name, b""),
             Some((b"scenario", name)) => self.add_scenario(name),
             Some((key, rest)) => self.add_to_scenario(line, key, rest),
-            None => Err(LineFault::Outside),
+            None => self.add_to_scenario(line, line, b""),
         }
     }
 

@@ -27,7 +27,8 @@ fn without_lf(line: &[u8]) -> &[u8]
     line
 }
 
-/// Appends a line of answers as a report shows it: without its LF, between backquotes.
+/// Appends a line of answers as a report shows it: without its LF, between backquotes, or `nothing`
+/// for the empty line.
 fn put_shown(report: &mut Vec<u8>, line: &[u8]) -> Result<(), Memory>
     ensures { OnOk result (report.new.items ≡ report.old.items ++ shown line.now) }
 {

@@ -57,7 +57,7 @@ impl Scenario {
     }
 
     /// Adds a line of the script or of the answers, with each word replaced by its digits. If
-    /// memory runs out, a part of the line may have been added.
+    /// memory runs out, nothing is stated about the script and the answers.
     pub fn add_line(&mut self, words: &[Word], line: &[u8]) -> Result<(), Memory>
         ensures script { OnOk result (self.new.script.items
             ≡ self.old.script.items ++ script_part words.now line.now) }

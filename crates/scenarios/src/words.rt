@@ -38,7 +38,7 @@ pub fn meaning_of<'a>(words: &'a [Word], name: &'a [u8]) -> &'a [u8]
 }
 
 /// Appends a line in which each word that has a meaning is replaced by its digits. If memory runs
-/// out, a part of the line may have been appended.
+/// out, nothing is stated about the text.
 pub fn put_spelled(text: &mut Vec<u8>, words: &[Word], line: &[u8]) -> Result<(), Memory>
     ensures { OnOk result (text.new.items ≡ text.old.items ++ spelled words.now line.now) }
 {
