@@ -1,5 +1,5 @@
 -- The answers that a scenario's script has on a new node.
-use Rattle.std.specs.Prelude.{◌≡◌, ◌⊎◌, ℕ, List, ◌++◌, codes}
+use Rattle.std.specs.Prelude.{◌≡◌, ◌⊎◌, ℕ, List, ◌++◌, codes, None}
 use Rattle.std.specs.Fmt.{decimal}
 use Rattle.hmac_keys.specs.KeyFile.{NamedKey}
 use Rattle.hmac_keys.specs.KeyReading.{AreKeys}
@@ -8,7 +8,7 @@ use Rattle.ndn_names.specs.ReadsAs.{ReadsAs}
 use Rattle.ndn_tlv.specs.Element.{Field}
 use Rattle.forwarder.specs.Event.{PlainEvent}
 use Rattle.forwarder.specs.Node.{NodeState}
-use Rattle.forwarder.specs.Parts.{first_node}
+use Rattle.forwarder.specs.Parts.{first_node, parts_fault}
 use Rattle.node_core.specs.Files.{AreRules}
 use Rattle.node_core.specs.Script.{IsScript, IsBadAt, IsTextOfRun}
 use Rattle.scenarios.specs.declared.scenario.Scenario.{Scenario}
@@ -26,11 +26,11 @@ AreAnswers node script answers =
     ⊎ ((number : ℕ) × (events : List PlainEvent) × (text : List ℕ) × IsBadAt script number events
     × IsTextOfRun node events text × (answers ≡ text ++ bad_line number))
 
--- possible answers of a new node with the rules, keys, prefix and capacity of the scenario to the
--- scenario's script
+-- The rules, keys, prefix and capacity of the scenario make a node, and the answers are possible
+-- ones of this node, when new, to the scenario's script.
 abbrev pub AreAnswersTo : Scenario → List ℕ → Type 0
 AreAnswersTo scenario answers =
     (rules : List PlainRule) × (keys : List NamedKey) × (repo : List Field)
     × AreRules scenario.rules.items rules × AreKeys scenario.keys.items keys
-    × ReadsAs scenario.repo.items repo
+    × ReadsAs scenario.repo.items repo × (parts_fault repo scenario.cache ≡ None)
     × AreAnswers (first_node rules keys repo scenario.cache) scenario.script.items answers

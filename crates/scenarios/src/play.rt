@@ -1,8 +1,8 @@
 //! Plays the script of a scenario on a new node.
-ghost use Rattle.std.specs.Prelude.{◌≡◌, ◌++◌, Some, IfOk, IfSome, OnOk};
+ghost use Rattle.std.specs.Prelude.{◌≡◌, ◌++◌, IfOk, IfSome, OnOk};
 ghost use Rattle.hmac_keys.specs.KeyReading.{AreKeys};
 ghost use Rattle.ndn_names.specs.ReadsAs.{ReadsAs};
-ghost use Rattle.forwarder.specs.Parts.{first_node};
+ghost use Rattle.forwarder.specs.Parts.{first_node, parts_fault};
 ghost use Rattle.node_core.specs.Files.{AreRules};
 ghost use Rattle.scenarios.specs.Outcome.{AreAnswers, AreAnswersTo, bad_line};
 
@@ -37,9 +37,10 @@ fn put_bad_line(text: &mut Vec<u8>, number: u64) -> Result<(), Memory>
 
 /// Plays a script on a new node with these parts, and returns the answers.
 fn answers_to(alloc: Global, parts: NodeParts, script: &[u8]) -> Result<Vec<u8>, PlayFault>
-    ensures { IfOk result (λ answers.
+    ensures answers { IfOk result (λ answers.
         AreAnswers (first_node parts.rules parts.keys parts.repo parts.cache)
         script.now answers.items) }
+    ensures valid { OnOk result (parts_fault parts.repo parts.cache ≡ None) }
 {
     let mut answers = Vec::new(alloc);
     let mut unread = script;
