@@ -1,34 +1,67 @@
 //! Tests of management commands: names that no node reads as a command, statuses, and segments.
 
 mod effects;
+mod refused_memory;
 
 use mgmt_core::{Command, segment_of, status_text};
-use ndn_names::Name;
+use ndn_names::{Name, NameBuf};
 use std::alloc::Global;
+use test_support::first_wrong;
 
-/// The octets of the name `/localhost/nfd/fib/add-nexthop`, and then a component with the
-/// parameters of a next hop of `/A`.
-const ADD_A: &[u8] =
-    b"\x08\x09localhost\x08\x03nfd\x08\x03fib\x08\x0badd-nexthop\x08\x07h\x05\x07\x03\x08\x01A";
+/// Names, each with the status of its refusal, or 200 if it is read as a command.
+const NAMES: &str = "
+# Names of commands.
+/localhost/nfd/fib/add-nexthop/h%05%07%03%08%01A -> 200
+/localhost/nfd/fib/add-nexthop/h%02%07%00 -> 200
+/localhost/nfd/fib/remove-nexthop/h%08%07%03%08%01Ai%01%0A -> 200
+/localhost/nfd/rib/register/h%05%07%03%08%01A -> 200
+/localhost/nfd/rib/unregister/h%05%07%03%08%01A -> 200
+/localhost/nfd/strategy-choice/set/h%09%07%03%08%01Ak%02%07%00 -> 200
+/localhost/nfd/strategy-choice/unset/h%05%07%03%08%01A -> 200
+/localhost/nfd/cs/erase/h%08%07%03%08%01A%84%01%02 -> 200
+# Names without a module or without a verb.
+/ -> 400
+/localhost/nfd -> 400
+/localhost/nfd/fib -> 400
+# Commands that do not exist, with parameters and without.
+/localhost/nfd/fib/list -> 501
+/localhost/nfd/rib/list -> 501
+/localhost/nfd/rib/list/h%05%07%03%08%01A -> 501
+/localhost/nfd/rib/list/h%05%07%03%08%01Aj%01%00 -> 501
+/localhost/nfd/rib/add-nexthop/h%05%07%03%08%01A -> 501
+/localhost/nfd/fib/register/h%05%07%03%08%01A -> 501
+/localhost/nfd/fib/add -> 501
+/localhost/nfd/cs/add-nexthop -> 501
+/localhost/nfd/strategy-choice/erase -> 501
+/localhost/nfd/fib/32=add-nexthop/h%05%07%03%08%01A -> 501
+/localhop/nfd/fib/add-nexthop/h%05%07%03%08%01A -> 501
+/localhost/NFD/fib/add-nexthop/h%05%07%03%08%01A -> 501
+# No parameters, two components of parameters, and a digest before the parameters.
+/localhost/nfd/fib/add-nexthop -> 400
+/localhost/nfd/rib/register -> 400
+/localhost/nfd/fib/add-nexthop/h%05%07%03%08%01A/h%05%07%03%08%01A -> 400
+/localhost/nfd/fib/add-nexthop/params-sha256=0000000000000000000000000000000000000000000000000000000000000000/h%05%07%03%08%01A -> 400
+# Parameters in a component of another type or an element of another type, with an octet after them,
+# cut short, and with a length that ends before the Cost.
+/localhost/nfd/fib/add-nexthop/32=h%05%07%03%08%01A -> 400
+/localhost/nfd/fib/add-nexthop/i%05%07%03%08%01A -> 400
+/localhost/nfd/fib/add-nexthop/h%05%07%03%08%01A%00 -> 400
+/localhost/nfd/fib/add-nexthop/h%05%07%03%08 -> 400
+/localhost/nfd/rib/register/h%05%07%03%08%01Aj%01%00 -> 400
+";
 
-/// The same name without parameters.
-const ADD: &[u8] = b"\x08\x09localhost\x08\x03nfd\x08\x03fib\x08\x0badd-nexthop";
+/// Returns whether a name is read as `row` says. The row is a URI, ` -> `, and a status.
+fn is_read(alloc: Global, row: &str) -> bool {
+    match row.split_once(" -> ") {
+        Some((uri, status)) => has_status(alloc, uri, status.parse().ok()),
+        None => false,
+    }
+}
 
-/// The same name with a digest before the parameters.
-const ADD_DIGEST_A: &[u8] =
-    b"\x08\x09localhost\x08\x03nfd\x08\x03fib\x08\x0badd-nexthop\x02\x20\0\0\0\0\0\0\0\0\0\0\0\0\0\0\0\0\0\0\0\0\0\0\0\0\0\0\0\0\0\0\0\0\x08\x07h\x05\x07\x03\x08\x01A";
-
-/// Names like `ADD_A` under `/localhop` and under `/localhost/NFD`.
-const LOCALHOP: &[u8] =
-    b"\x08\x08localhop\x08\x03nfd\x08\x03fib\x08\x0badd-nexthop\x08\x07h\x05\x07\x03\x08\x01A";
-
-const CAPITALS: &[u8] =
-    b"\x08\x09localhost\x08\x03NFD\x08\x03fib\x08\x0badd-nexthop\x08\x07h\x05\x07\x03\x08\x01A";
-
-/// Returns whether a name is refused with this status or, if the status is 200, read as a command.
-fn is_read(octets: &[u8], status: u16) -> bool {
-    match Name::read(octets) {
-        Ok(name) => status_of(name) == status,
+/// Returns whether the name with this URI has this status.
+fn has_status(alloc: Global, uri: &str, status: Option<u16>) -> bool {
+    match NameBuf::from_uri(alloc, uri) {
+        Ok(name) => Some(status_of(name.view())) == status,
         Err(_) => false,
     }
 }
@@ -45,12 +78,7 @@ fn status_of(name: Name<'_>) -> u16 {
 /// `/localhost/nfd`, and a signed Interest has a digest at the end of its name.
 #[test]
 fn names_without_a_digest(rt: HostRuntime) {
-    assert!(rt; is_read(ADD_A, 200));
-    assert!(rt; is_read(ADD, 400));
-    assert!(rt; is_read(ADD_DIGEST_A, 400));
-    assert!(rt; is_read(b"", 400));
-    assert!(rt; is_read(LOCALHOP, 501));
-    assert!(rt; is_read(CAPITALS, 501));
+    assert!(rt; first_wrong(rt.alloc(), NAMES, is_read) == 0);
 }
 
 #[test]

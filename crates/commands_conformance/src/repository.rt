@@ -1,12 +1,13 @@
-//! Tests of the repository that no scenario shows: names that no node reads as a command, a full
-//! repository, and random calls.
+//! Tests of the repository that no scenario shows: names that no node reads as a command, a status
+//! without a text, a full repository, refused memory, and random calls.
 
 mod full;
 mod random_sequences;
+mod refused_memory;
 
 use ndn_names::{Name, NameBuf};
 use ndn_packets::{Data, Frame, read_frame};
-use repo_core::Repo;
+use repo_core::{Repo, repo_status_text};
 use std::alloc::Global;
 use test_support::first_wrong;
 
@@ -56,4 +57,11 @@ const NAMES: &str = "
 #[test]
 fn names_of_no_command(rt: HostRuntime) {
     assert!(rt; first_wrong(rt.alloc(), NAMES, is_refused) == 0);
+}
+
+/// No command of the repository has status 403.
+#[test]
+fn texts_of_repository_statuses(rt: HostRuntime) {
+    assert!(rt; repo_status_text(503) == Some("repository full"));
+    assert!(rt; repo_status_text(403).is_none());
 }

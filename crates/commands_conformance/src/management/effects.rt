@@ -5,7 +5,8 @@ ghost use Rattle.std.specs.Prelude.{◌≡◌};
 use content_store::Store;
 use mgmt_core::*;
 use ndn_names::Name;
-use pit_fib::{Faces, Fib, StrategyTable};
+use ndn_tlv::Memory;
+use pit_fib::{Faces, Fib, StrategyId, StrategyTable};
 use std::alloc::Global;
 use std::marker::Model;
 
@@ -32,7 +33,7 @@ impl Model for Station {
 
 impl Station {
     /// Returns a station that has no routes and no Data. The faces 2 and 9 are up.
-    fn new(alloc: Global) -> Option<Station> {
+    pub fn new(alloc: Global) -> Option<Station> {
         let store = Store::new(alloc, 8).ok()?;
         let mut up = Faces::new();
         up.insert(2);
@@ -44,18 +45,33 @@ impl Station {
     }
 
     /// Applies a command from face 9. Returns the command's status, or 0 if memory runs out.
-    fn apply(&mut self, command: &Command<'_>) -> u16 {
+    pub fn apply(&mut self, command: &Command<'_>) -> u16 {
         match apply(&mut self.tables, command, 9, &self.up, 1_000_000) {
             Ok(applied) => applied.status,
             Err(_) => 0,
         }
     }
 
+    /// Prepares a command. Returns false if memory runs out.
+    pub fn prepare(&mut self, command: &Command<'_>) -> bool {
+        self.tables.prepare(command).is_ok()
+    }
+
+    /// Returns a segment of the list of routes, and the number of the last segment.
+    pub fn routes(&self, alloc: Global, number: u64) -> Result<Option<(Vec<u8>, u64)>, Memory> {
+        fib_segment(alloc, &self.tables.fib, 0, number)
+    }
+
+    /// Returns a segment of the list of strategies, and the number of the last segment.
+    pub fn strategies(&self, alloc: Global, number: u64) -> Result<Option<(Vec<u8>, u64)>, Memory> {
+        strategy_segment(alloc, &self.tables.strategies, number)
+    }
+
     /// Returns whether the list of routes has 16 segments of 4,096 octets, and the segment with
     /// this number begins with `first` and ends with `last`.
     fn has_segment(&self, alloc: Global, number: u64, first: &[u8], last: &[u8]) -> bool {
         matches!(
-            fib_segment(alloc, &self.tables.fib, 0, number),
+            self.routes(alloc, number),
             Ok(Some((text, 15))) if text.len() == 4096
                 && text.starts_with(first)
                 && text.ends_with(last)
@@ -63,10 +79,25 @@ impl Station {
     }
 
     /// Returns the number of next hops for Interests with this name.
-    fn hops(&self, octets: &[u8]) -> usize {
+    pub fn hops(&self, octets: &[u8]) -> usize {
         match Name::read(octets) {
             Ok(name) => self.tables.fib.longest(name).len(),
             Err(_) => usize::MAX,
+        }
+    }
+
+    /// Returns the cost of the first next hop for Interests with this name.
+    fn cost(&self, octets: &[u8]) -> Option<u64> {
+        let name = Name::read(octets).ok()?;
+        let hop = self.tables.fib.longest(name).get(0)?;
+        Some(hop.cost)
+    }
+
+    /// Returns whether Interests with this name have this strategy.
+    fn has_strategy(&self, octets: &[u8], strategy: StrategyId) -> bool {
+        match Name::read(octets) {
+            Ok(name) => self.tables.strategies.longest(name) == strategy,
+            Err(_) => false,
         }
     }
 
@@ -83,15 +114,10 @@ impl Station {
             return 0;
         };
         self.apply(&Command {
-            action,
-            name,
             face,
             origin,
-            cost: 0,
-            flags: 1,
-            expires: None,
             strategy,
-            count: None,
+            ..plain_command(action, name)
         })
     }
 
@@ -100,9 +126,35 @@ impl Station {
         self.status(Action::AddNexthop, octets, face, 0, None)
     }
 
+    /// Adds a next hop of a name on face 2, with this cost. Returns the status.
+    fn add_at_cost(&mut self, octets: &[u8], cost: u64) -> u16 {
+        match Name::read(octets) {
+            Ok(name) => self.apply(&Command {
+                cost,
+                ..plain_command(Action::AddNexthop, name)
+            }),
+            Err(_) => 0,
+        }
+    }
+
     /// Registers a route of a name. Returns the status.
     fn register(&mut self, octets: &[u8], face: u64, origin: u64) -> u16 {
         self.status(Action::Register, octets, face, origin, None)
+    }
+}
+
+/// Returns a command about this name and face 2, with the default value of each other field.
+pub fn plain_command(action: Action, name: Name<'_>) -> Command<'_> {
+    Command {
+        action,
+        name,
+        face: 2,
+        origin: 0,
+        cost: 0,
+        flags: 1,
+        expires: None,
+        strategy: None,
+        count: None,
     }
 }
 
@@ -136,9 +188,9 @@ fn takes_4096_names(station: &mut Station) -> bool {
     true
 }
 
-/// Returns whether a full table refuses a new name but accepts another next hop, and a route, for a
-/// known name. Even a full table must give status 414 for a name that is too long, and status 410
-/// for a face that is not up.
+/// Returns whether a full table refuses a new name but accepts another next hop, another cost of a
+/// next hop, and a route, for a known name. Even a full table must give status 414 for a name that
+/// is too long, and status 410 for a face that is not up.
 fn refuses_one_name_more(station: &mut Station) -> bool {
     station.add(DEEP, 7) == 414
         && station.register(DEEP, 7, 0) == 414
@@ -148,11 +200,15 @@ fn refuses_one_name_more(station: &mut Station) -> bool {
         && station.hops(&numbered(4096)) == 0
         && station.add(&numbered(4095), 9) == 200
         && station.hops(&numbered(4095)) == 2
+        && station.cost(&numbered(5)) == Some(0)
+        && station.add_at_cost(&numbered(5), 7) == 200
+        && station.cost(&numbered(5)) == Some(7)
+        && station.add_at_cost(&numbered(4096), 7) == 503
         && station.register(&numbered(6), 2, 0) == 200
 }
 
 /// Returns whether a full table accepts a new name only after another name has lost its last next
-/// hop and its last route.
+/// hop and its last route, whichever of them goes first.
 fn frees_names(station: &mut Station) -> bool {
     station.status(Action::RemoveNexthop, &numbered(6), 2, 0, None) == 200
         && station.register(&numbered(4096), 2, 0) == 503
@@ -160,6 +216,10 @@ fn frees_names(station: &mut Station) -> bool {
         && station.register(&numbered(4096), 2, 0) == 200
         && station.add(&numbered(6), 2) == 503
         && station.add(&numbered(4096), 2) == 200
+        && station.status(Action::Unregister, &numbered(4096), 2, 0, None) == 200
+        && station.add(&numbered(6), 2) == 503
+        && station.status(Action::RemoveNexthop, &numbered(4096), 2, 0, None) == 200
+        && station.add(&numbered(6), 2) == 200
 }
 
 /// The entries of the first and of the last of the 4,096 names in the list of routes.
@@ -177,7 +237,7 @@ fn lists_4096_names(alloc: Global, station: &Station) -> bool {
     }
     station.has_segment(alloc, 0, FIRST, b"")
         && station.has_segment(alloc, 15, b"", LAST)
-        && !station.has_segment(alloc, 16, b"", b"")
+        && matches!(station.routes(alloc, 16), Ok(None))
 }
 
 fn names_are_limited(alloc: Global, station: &mut Station) -> bool {
@@ -210,9 +270,9 @@ fn takes_16384_routes(station: &mut Station) -> bool {
 }
 
 /// Returns whether a table with 16,384 routes refuses a new route for a known name, for a new name
-/// and for a name of 33 components. The table must accept a route that it already has, and a next
-/// hop of a new name. After a route is unregistered, it must accept one new route, but no second
-/// one.
+/// and for a name of 33 components. The table must accept a route that it already has, a next hop
+/// of a new name, and another cost of this next hop. After a route is unregistered, it must accept
+/// one new route, but no second one. The removal of a next hop leaves no room for a route.
 fn routes_are_limited(_alloc: Global, station: &mut Station) -> bool {
     takes_16384_routes(station)
         && station.register(&numbered(7), 2, 32) == 503
@@ -220,8 +280,12 @@ fn routes_are_limited(_alloc: Global, station: &mut Station) -> bool {
         && station.register(DEEP, 2, 32) == 414
         && station.register(&numbered(7), 9, 31) == 200
         && station.add(&numbered(256), 2) == 200
+        && station.add_at_cost(&numbered(256), 7) == 200
+        && station.cost(&numbered(256)) == Some(7)
         && station.status(Action::Unregister, &numbered(7), 2, 0, None) == 200
         && station.register(&numbered(256), 2, 32) == 200
+        && station.register(&numbered(257), 2, 32) == 503
+        && station.status(Action::RemoveNexthop, &numbered(256), 2, 0, None) == 200
         && station.register(&numbered(257), 2, 32) == 503
 }
 
@@ -230,8 +294,10 @@ fn sixteen_thousand_routes(rt: HostRuntime) {
     assert!(rt; played(rt.alloc(), routes_are_limited));
 }
 
-/// The octets of the names `/localhost/nfd/strategy/multicast` and `/A`.
+/// The octets of the names of both strategies, and of the name `/A`.
 const MULTICAST: &[u8] = b"\x08\x09localhost\x08\x03nfd\x08\x08strategy\x08\x09multicast";
+
+const BEST_ROUTE: &[u8] = b"\x08\x09localhost\x08\x03nfd\x08\x08strategy\x08\x0abest-route";
 
 const UNKNOWN: &[u8] = b"\x08\x01A";
 
@@ -254,16 +320,19 @@ fn takes_4096_strategies(station: &mut Station) -> bool {
 }
 
 /// The name `/` has a strategy from the start, so the table is full with 4,095 further names.
-/// Returns whether a full table refuses a further name, but accepts a strategy for a known name and
-/// for `/`. Even the full table must give status 404 for an unknown strategy, and 414 for a name of
-/// 33 components. After a strategy is unset, it must accept a further name.
+/// Returns whether a full table refuses a further name, but replaces the strategy of a known name
+/// and of `/`. Even the full table must give status 404 for an unknown strategy, and 414 for a name
+/// of 33 components. After a strategy is unset, it must accept a further name.
 fn strategies_are_limited(_alloc: Global, station: &mut Station) -> bool {
     takes_4096_strategies(station)
         && set(station, &numbered(4096), UNKNOWN) == 404
         && set(station, DEEP, MULTICAST) == 414
         && set(station, &numbered(4096), MULTICAST) == 503
-        && set(station, &numbered(1), MULTICAST) == 200
+        && station.has_strategy(&numbered(4096), StrategyId::BestRoute)
+        && set(station, &numbered(1), BEST_ROUTE) == 200
         && set(station, b"", MULTICAST) == 200
+        && station.has_strategy(&numbered(1), StrategyId::BestRoute)
+        && station.has_strategy(b"", StrategyId::Multicast)
         && station.status(Action::UnsetStrategy, &numbered(8), 0, 0, None) == 200
         && set(station, &numbered(4096), MULTICAST) == 200
 }
