@@ -2,6 +2,7 @@
 
 mod effects;
 mod refused_memory;
+mod same_tables;
 
 use mgmt_core::{Command, segment_of, status_text};
 use ndn_names::{Name, NameBuf};

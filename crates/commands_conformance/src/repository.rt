@@ -1,9 +1,10 @@
 //! Tests of the repository that no scenario shows: names that no node reads as a command, a status
-//! without a text, a full repository, refused memory, and random calls.
+//! without a text, a full repository, comparisons, refused memory, and random calls.
 
 mod full;
 mod random_sequences;
 mod refused_memory;
+mod same_repositories;
 
 use ndn_names::{Name, NameBuf};
 use ndn_packets::{Data, Frame, read_frame};
@@ -19,9 +20,14 @@ fn data_in(packet: &[u8]) -> Option<Data<'_>> {
     }
 }
 
+/// Returns an empty repository with this prefix.
+fn repo_at(alloc: Global, prefix: &str) -> Option<Repo> {
+    Repo::new(alloc, NameBuf::from_uri(alloc, prefix).ok()?).ok()
+}
+
 /// Returns an empty repository with the prefix `/repo`.
 fn empty_repo(alloc: Global) -> Option<Repo> {
-    Repo::new(alloc, NameBuf::from_uri(alloc, "/repo").ok()?).ok()
+    repo_at(alloc, "/repo")
 }
 
 /// Applies a command, and returns its status and its count.

@@ -67,6 +67,18 @@ impl Station {
         strategy_segment(alloc, &self.tables.strategies, number)
     }
 
+    /// Returns whether two stations have the same next hops and routes, and whether they have the
+    /// same strategies. Returns `None` if memory runs out.
+    pub fn sameness(&self, alloc: Global, other: &Station) -> Option<(bool, bool)> {
+        let (tables, others) = (&self.tables, &other.tables);
+        let are_routes = tables.fib.has_same_routes(alloc, &others.fib).ok()?;
+        let are_choices = tables
+            .strategies
+            .has_same_choices(alloc, &others.strategies)
+            .ok()?;
+        Some((are_routes, are_choices))
+    }
+
     /// Returns whether the list of routes has 16 segments of 4,096 octets, and the segment with
     /// this number begins with `first` and ends with `last`.
     fn has_segment(&self, alloc: Global, number: u64, first: &[u8], last: &[u8]) -> bool {
@@ -295,9 +307,9 @@ fn sixteen_thousand_routes(rt: HostRuntime) {
 }
 
 /// The octets of the names of both strategies, and of the name `/A`.
-const MULTICAST: &[u8] = b"\x08\x09localhost\x08\x03nfd\x08\x08strategy\x08\x09multicast";
+pub const MULTICAST: &[u8] = b"\x08\x09localhost\x08\x03nfd\x08\x08strategy\x08\x09multicast";
 
-const BEST_ROUTE: &[u8] = b"\x08\x09localhost\x08\x03nfd\x08\x08strategy\x08\x0abest-route";
+pub const BEST_ROUTE: &[u8] = b"\x08\x09localhost\x08\x03nfd\x08\x08strategy\x08\x0abest-route";
 
 const UNKNOWN: &[u8] = b"\x08\x01A";
 
