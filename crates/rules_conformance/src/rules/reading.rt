@@ -1,14 +1,42 @@
-//! Tests of the messages of faults and reasons. Which texts are rule files, and which faults other
-//! texts have, is in `crates/ndn_node/transcripts/rules.txt`.
+//! Tests of the number of rules in a text, and of the messages of faults and reasons. Which texts
+//! are rule files, and which faults other texts have, is in `crates/ndn_node/transcripts/rules.txt`.
 
 use crate::rows::check_rows;
 use info_rules::{InfoTree, Reason, Rules, RulesFault, RulesFaultKind};
 use std::alloc::Global;
+use test_support::typed;
 
 /// Reads the rules of a text.
 pub fn rules_of(alloc: Global, text: &str) -> Result<Rules, RulesFault> {
     let tree = InfoTree::read(alloc, text)?;
     Rules::read(alloc, &tree)
+}
+
+/// Returns the number of rules in a text. A symbol such as `␊` stands for a control character.
+fn count_text(alloc: Global, text: &str) -> Option<String> {
+    let text = typed(alloc, text)?;
+    count_of(alloc, text.as_str())
+}
+
+/// Returns the number of rules in a text.
+fn count_of(alloc: Global, text: &str) -> Option<String> {
+    let rules = rules_of(alloc, text).ok()?;
+    format!(in alloc; "{}", rules.len()).ok()
+}
+
+/// A trust anchor is no rule, even if it has a block with the key `rule`.
+const COUNTS: &str = "
+␊ -> 0
+trust-anchor {␊ type file␊ file-name x.cert } -> 0
+trust-anchor {␊ refresh 1h {␊ rule }␊ type dir } -> 0
+trust-anchor {␊ type base64 }␊ trust-anchor {␊ type file } -> 0
+rule {␊ id a␊ for data }␊ trust-anchor {␊ type file } -> 1
+rule {␊ id a␊ for data }␊ rule {␊ id b␊ for data } -> 2
+";
+
+#[test]
+fn numbers_of_rules(rt: HostRuntime) {
+    check_rows(&rt, rt.alloc(), COUNTS, count_text);
 }
 
 const HYPER_RELATION: &str = r"
