@@ -337,9 +337,12 @@ def write_files(folder, rules, keys):
 
 def report(run):
     """Calls `run`, prints how the tool ended, and returns the exit status: 0 if all checks passed, 1 if `run` raises
-    Wrong, and SKIPPED if it raises Skipped. `run` returns a text that says what was done."""
+    Wrong, and SKIPPED if it raises Skipped. `run` returns a text that says what was done. An empty text, or one that
+    begins with 0, means that nothing was done, which is a failure."""
     try:
         done = run()
+        if not done or done.startswith("0 "):
+            raise Wrong("nothing was checked")
     except Wrong as fault:
         print(f"FAILED: {fault}", file=sys.stderr)
         return 1
