@@ -16,14 +16,16 @@ mod words;
 
 use crate::file::{LineFault, Reading};
 use crate::play::PlayFault;
-use crate::report::{Counts, put_reports};
+use crate::report::{Counts, Unplayed, put_reports};
+use crate::scenario::Scenario;
 use limited_reads::read_within;
 use node_core::put_all;
+use std::alloc::Global;
 use std::env::Env;
 use std::fs::File;
 use std::process::ExitCode;
 use std::rt::Files;
-use std::{env, io};
+use std::{env, io, str};
 use thiserror::Error;
 
 /// The greatest length of a file of scenarios, in octets.
@@ -38,10 +40,12 @@ enum Fault {
         line: u64,
         fault: LineFault,
     },
+    #[error("give the paths of files of scenarios\n")]
+    NoFile,
     #[error("{0} cannot be read\n")]
     Unread(String),
-    #[error("{0}\n")]
-    Unplayed(PlayFault),
+    #[error("scenario {0}: its rules, keys, prefix and cache make no node\n")]
+    Parts(String),
     #[error("the arguments cannot be read, the reports cannot be written, or memory ran out\n")]
     Failed,
 }
@@ -63,11 +67,28 @@ fn run<R: Env + AllocGlobal + Files<File = File> + Print>(rt: &R) -> Result<Coun
     let mut reading = Reading::new(rt.alloc());
     read_files(rt, &mut reading)?;
     let mut text = Vec::new(rt.alloc());
-    let counts = put_reports(rt.alloc(), &mut text, reading.scenarios.as_slice()).map_err(
-        Fault::Unplayed,
-    )?;
+    let counts = match put_reports(rt.alloc(), &mut text, &reading.scenarios) {
+        Ok(counts) => counts,
+        Err(unplayed) => return Err(fault_of(rt.alloc(), &reading.scenarios, unplayed)),
+    };
     put_all(&mut io::writer(rt), text.as_slice()).map_err(|_| Fault::Failed)?;
     Ok(counts)
+}
+
+/// Returns the fault of scenarios that could not be played. If the parts of a scenario are wrong,
+/// the fault has the scenario's name.
+fn fault_of(alloc: Global, scenarios: &[Scenario], unplayed: Unplayed) -> Fault {
+    match scenarios.get(unplayed.place as usize) {
+        Some(scenario) if unplayed.fault == PlayFault::Parts => {
+            name_of(alloc, scenario).map_or(Fault::Failed, Fault::Parts)
+        }
+        _ => Fault::Failed,
+    }
+}
+
+fn name_of(alloc: Global, scenario: &Scenario) -> Option<String> {
+    let name = str::from_utf8(scenario.name.as_slice()).ok()?;
+    String::from_str(alloc, name).ok()
 }
 
 /// Reads the files that the arguments name.
@@ -78,10 +99,12 @@ fn read_files<R: Env + AllocGlobal + Files<File = File>>(
     let Ok(paths) = env::args(rt) else {
         return Err(Fault::Failed);
     };
+    let mut is_given = false;
     for path in paths.skip(1) {
         read_file(rt, reading, path)?;
+        is_given = true;
     }
-    Ok(())
+    if is_given { Ok(()) } else { Err(Fault::NoFile) }
 }
 
 /// Reads the file at a path.

@@ -1,6 +1,8 @@
 //! The report on scenarios: a line for each scenario, and a line with counts.
 ghost use Rattle.std.specs.Prelude.{◌≡◌, ◌↔◌, ◌++◌, List, ℕ, IfOk, IsTrue, OnOk};
-ghost use Rattle.scenarios.specs.Report.{without_lf as without_lf_of, shown, passed_line, difference_line, counts_line, IsReport, Reported, AreReported};
+ghost use Rattle.scenarios.specs.Report.{without_lf as without_lf_of, shown, passed_line};
+ghost use Rattle.scenarios.specs.Report.{difference_line, counts_line};
+ghost use Rattle.scenarios.specs.Report.{IsReport, Reported, AreReported};
 
 use crate::differ::first_difference;
 use crate::play::{PlayFault, played};
@@ -14,6 +16,13 @@ use std::alloc::Global;
 pub struct Counts {
     pub passed: u64,
     pub differ: u64,
+}
+
+/// Why the scenario at a place, counted from 0, could not be played.
+#[derive(Clone, Copy, PartialEq, Eq)]
+pub struct Unplayed {
+    pub place: u64,
+    pub fault: PlayFault,
 }
 
 /// Returns a line without its LF.
@@ -124,7 +133,7 @@ pub fn put_reports(
     alloc: Global,
     report: &mut Vec<u8>,
     scenarios: &[Scenario],
-) -> Result<Counts, PlayFault>
+) -> Result<Counts, Unplayed>
     ensures { IfOk result (λ counts. (lines : List ℕ)
         × AreReported scenarios.now lines counts.passed counts.differ
         × (report.new.items
@@ -133,7 +142,10 @@ pub fn put_reports(
     let counts = put_lines(alloc, report, scenarios)?;
     match put_counts(report, counts) {
         Ok(()) => Ok(counts),
-        Err(Memory) => Err(PlayFault::Memory),
+        Err(Memory) => Err(Unplayed {
+            place: scenarios.len() as u64,
+            fault: PlayFault::Memory,
+        }),
     }
 }
 
@@ -142,7 +154,7 @@ fn put_lines(
     alloc: Global,
     report: &mut Vec<u8>,
     scenarios: &[Scenario],
-) -> Result<Counts, PlayFault>
+) -> Result<Counts, Unplayed>
     ensures { IfOk result (λ counts. (lines : List ℕ)
         × AreReported scenarios.now lines counts.passed counts.differ
         × (report.new.items ≡ report.old.items ++ lines)) }
@@ -150,7 +162,14 @@ fn put_lines(
     let mut passed = 0u64;
     let mut differ = 0u64;
     for scenario in scenarios {
-        if put_played(alloc, report, scenario)? {
+        let is_passed = match put_played(alloc, report, scenario) {
+            Ok(is_passed) => is_passed,
+            Err(fault) => {
+                let place = passed + differ;
+                return Err(Unplayed { place, fault });
+            }
+        };
+        if is_passed {
             passed += 1;
         } else {
             differ += 1;

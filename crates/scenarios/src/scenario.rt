@@ -35,8 +35,8 @@ pub fn is_answer(line: &[u8]) -> bool
 }
 
 impl Scenario {
-    /// Returns a scenario without section, rules, keys, lines and answers. Its repository has the prefix
-    /// `/repo`, and its cache holds 1,024 Data.
+    /// Returns a scenario without section, rules, keys, lines and answers. Its repository has the
+    /// prefix `/repo`, and its cache holds 1,024 Data.
     pub fn new(alloc: Global, name: &[u8]) -> Result<Scenario, Memory>
         ensures name { IfOk result (λ s. s.name.items ≡ name.now) }
         ensures section { IfOk result (λ s. s.section.items ≡ []) }

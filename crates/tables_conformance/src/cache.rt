@@ -1,5 +1,5 @@
 //! Tests of the content store that no scenario shows: how many comparisons lookups take, stores of
-//! many Data, and random calls.
+//! many Data, a Data of 8,800 octets, and random calls.
 
 mod fresh_among_stale;
 mod random_sequences;
@@ -77,6 +77,35 @@ fn full_caches(rt: HostRuntime) {
     assert!(rt; is_first_gone(rt.alloc(), 3, 2) == Some(true));
     assert!(rt; is_first_gone(rt.alloc(), 8, 4) == Some(true));
     assert!(rt; is_first_gone(rt.alloc(), 1000, 10) == Some(true));
+}
+
+/// Puts a Data into the store, and then 1,000 other Data. Returns whether all of them are cached,
+/// and the first one is still found.
+fn is_found_among_others(store: &mut Store, packet: &[u8], other: &mut [u8]) -> bool {
+    if !put_packet(store, packet, 0) {
+        return false;
+    }
+    for number in 0..1000 {
+        put_number(other, number);
+        if !put_packet(store, other, 0) {
+            return false;
+        }
+    }
+    is_found(store, packet, 11, true)
+}
+
+/// Returns whether a Data of 8,800 octets, the greatest packet, is found among 1,000 others.
+fn is_greatest_found(alloc: Global) -> Option<bool> {
+    let packet = data_of(alloc, "/big", "00x8746", None)?;
+    let mut other = data_of(alloc, "/n/0000", "01", Some(0))?;
+    let mut store = Store::new(alloc, 1001).ok()?;
+    let is_found = is_found_among_others(&mut store, &packet, &mut other);
+    Some(packet.len() == 8800 && is_found)
+}
+
+#[test]
+fn greatest_data_among_others(rt: HostRuntime) {
+    assert!(rt; is_greatest_found(rt.alloc()) == Some(true));
 }
 
 #[test]

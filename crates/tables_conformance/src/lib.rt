@@ -1,6 +1,6 @@
 //! Tests of the tables of next hops, registered routes and pending Interests, of strategies, and of
-//! the content store that no scenario shows: limits, counts of comparisons, a strategy of the tests'
-//! own, and random calls.
+//! the content store that no scenario shows: limits, refused memory, counts of comparisons, a
+//! strategy of the tests' own, and random calls.
 #![tactic(auto)]
 
 #[cfg(test)]
@@ -8,7 +8,11 @@ mod cache;
 #[cfg(test)]
 mod pending;
 #[cfg(test)]
+mod refused_memory;
+#[cfg(test)]
 mod registered_routes;
+#[cfg(test)]
+mod route_limits;
 #[cfg(test)]
 mod route_table;
 #[cfg(test)]

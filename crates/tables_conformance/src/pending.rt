@@ -1,9 +1,10 @@
-//! Tests of the limits of tables of pending Interests, and of random calls. These tables have
-//! records only of faces below 64. Therefore no table exceeds its limit of 64 faces.
+//! Tests of the limits of tables of pending Interests, of refused memory, and of random calls.
+//! These tables have records only of faces below 64. Therefore no table exceeds its limit of 64 faces.
 
 mod random_sequences;
+mod refused_memory;
 
-ghost use Rattle.std.specs.Prelude.{◌≡◌};
+ghost use Rattle.std.specs.Prelude.{◌≡◌, ◌≤◌, length};
 
 use ndn_names::Name;
 use ndn_packets::*;
@@ -43,6 +44,29 @@ impl Table {
         self.pit
             .arrive(key, face % 64, nonce, &nonce, deadline, None)
             .err()
+    }
+
+    /// Records an Interest that has a PIT token and comes from the face `face % 64`. The octets of
+    /// the Interest are its Nonce. Returns the fault if the table refuses the Interest.
+    fn ask_with(
+        &mut self,
+        key: Key<'_>,
+        face: u64,
+        nonce: [u8; 4],
+        deadline: u64,
+        token: &[u8],
+    ) -> Option<PitFault>
+        requires { (1 ≤ length token.now) × (length token.now ≤ 32) }
+    {
+        self.pit
+            .arrive(key, face % 64, nonce, &nonce, deadline, Some(token))
+            .err()
+    }
+
+    /// Prepares an Interest under this key. The Interest and its PIT token may have `octets` octets
+    /// together. Returns whether the Interest is prepared.
+    fn prepare(&mut self, key: Key<'_>, octets: usize) -> bool {
+        self.pit.prepare(key, octets).is_ok()
     }
 
     /// Records that an Interest under this key was sent to the face `face % 64`, if the face
@@ -188,6 +212,87 @@ fn sends_to_64_faces(table: &mut Table, key: Key<'_>) -> bool {
         }
     }
     table.pit.used(key).len() == 64
+}
+
+/// Returns whether the greatest moment is recorded when an Interest with the greatest deadline is
+/// sent, and the Interest is pending until that moment.
+fn takes_the_last_moment(table: &mut Table, key: Key<'_>) -> bool {
+    let end = u64::MAX;
+    if table.ask(key, 1, [7; 4], end).is_some() || !table.sent(key, 1, 2, [7; 4], end) {
+        return false;
+    }
+    table.expire(end - 1);
+    let stands = table.pit.used(key).get(2) == Some(end) && table.pit.len() == 1;
+    table.expire(end);
+    stands && table.pit.is_empty()
+}
+
+fn ends_at_the_last_moment(alloc: Global) -> bool {
+    let mut table = Table::new(alloc);
+    match key_of(&numbered(0), 0) {
+        Some(key) => takes_the_last_moment(&mut table, key),
+        None => false,
+    }
+}
+
+#[test]
+fn greatest_moments(rt: HostRuntime) {
+    assert!(rt; ends_at_the_last_moment(rt.alloc()));
+}
+
+/// Records an Interest for `/` with each combination of flags. The Interest with the flags F is on
+/// face F, and its PIT token is F + 1. Returns whether all of them are recorded.
+fn asks_for_root(table: &mut Table) -> bool {
+    for flags in 0..4 {
+        let token = [flags as u8 + 1];
+        let is_recorded = match key_of(b"", flags) {
+            Some(key) => table
+                .ask_with(key, u64::from(flags), [7; 4], 9, &token)
+                .is_none(),
+            None => false,
+        };
+        if !is_recorded {
+            return false;
+        }
+    }
+    true
+}
+
+/// Returns whether each key of `/` has the PIT token of its own Interest, and of no other face.
+fn has_tokens_of_root(table: &Table) -> bool {
+    for flags in 0..4 {
+        let Some(key) = key_of(b"", flags) else {
+            return false;
+        };
+        for face in 0..4 {
+            let token = [flags as u8 + 1];
+            let expected = if face == flags {
+                Some(token.as_slice())
+            } else {
+                None
+            };
+            if table.pit.token_of(key, u64::from(face)) != expected {
+                return false;
+            }
+        }
+    }
+    true
+}
+
+/// Returns whether the four keys of `/` have records of their own. Of their Interests, only those
+/// with CanBePrefix are answered by a Data with a longer name.
+fn tells_keys_of_root(alloc: Global) -> bool {
+    let mut table = Table::new(alloc);
+    asks_for_root(&mut table)
+        && has_tokens_of_root(&table)
+        && table.pit.len() == 4
+        && faces_of(&mut table, &DATA) == 2
+        && table.pit.len() == 2
+}
+
+#[test]
+fn keys_of_root(rt: HostRuntime) {
+    assert!(rt; tells_keys_of_root(rt.alloc()));
 }
 
 /// The Data `/%00%00`, with no octets of Content.

@@ -4,6 +4,7 @@
 ghost use Rattle.std.specs.Prelude.{◌≡◌, ◌<◌, ◌-◌, ◌^◌, ◌⊎◌};
 
 use ndn_names::Name;
+use ndn_tlv::Memory;
 use pit_fib::*;
 use std::alloc::Global;
 use std::marker::Model;
@@ -86,6 +87,10 @@ impl RouteTable {
         } = route;
         self.fib
             .register(name, face_in(face), origin, cost, flags, deadline)
+    }
+
+    pub fn prepare(&mut self, name: Name<'_>) -> Result<(), Memory> {
+        self.fib.prepare(name)
     }
 
     pub fn remove(&mut self, name: Name<'_>, face: u64) {

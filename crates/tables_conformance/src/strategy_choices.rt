@@ -1,12 +1,12 @@
-//! Tests of a strategy of the tests' own, of strategies at moments at which no node uses them, and
-//! of sets of 64 faces.
+//! Tests of a strategy of the tests' own, of strategies at moments at which no node uses them, of
+//! sets of 64 faces, and of the strategy of `/`.
 
 ghost use Rattle.std.specs.Prelude.{Contains, take};
 ghost use Rattle.std.proofs.lemmas.List.Elements.{All-take, All-contains_itself};
 
 use crate::route_table::RouteTable;
 use ndn_names::Name;
-use pit_fib::{Faces, Hops, Used};
+use pit_fib::{Faces, Hops, StrategyId, StrategyTable, Used};
 use std::alloc::Global;
 use strategies::*;
 
@@ -142,4 +142,23 @@ fn take_64_faces() -> bool {
 #[test]
 fn sixty_four_faces(rt: HostRuntime) {
     assert!(rt; take_64_faces());
+}
+
+/// Returns whether `/` has this strategy in a table in which `/A`, and before it `/` if `sets_root`
+/// is set, got the strategy multicast.
+fn is_strategy_of_root(alloc: Global, sets_root: bool, expected: StrategyId) -> bool {
+    let (Ok(root), Ok(name)) = (Name::read(b""), Name::read(b"\x08\x01A")) else {
+        return false;
+    };
+    let mut table = StrategyTable::new(alloc);
+    let before = table.longest(root);
+    let root_is_set = !sets_root || table.set(root, StrategyId::Multicast).is_ok();
+    let is_set = root_is_set && table.set(name, StrategyId::Multicast).is_ok();
+    is_set && before == StrategyId::BestRoute && table.longest(root) == expected
+}
+
+#[test]
+fn strategy_of_root(rt: HostRuntime) {
+    assert!(rt; is_strategy_of_root(rt.alloc(), false, StrategyId::BestRoute));
+    assert!(rt; is_strategy_of_root(rt.alloc(), true, StrategyId::Multicast));
 }
