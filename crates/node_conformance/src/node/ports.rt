@@ -254,17 +254,30 @@ fn served_turns_after_a_failed_call(rt: HostRuntime) {
     assert!(rt; goes_on(rt.alloc(), 6, 5, 0) == Some(true));
 }
 
-/// Returns whether a new node at a port gives the answers to `FIRST_PATH`.
-fn takes_first_path(alloc: Global) -> Option<bool> {
-    on_node(
-        alloc,
-        &|alloc, node| prints(alloc, node, FIRST_PATH, FIRST_ANSWERS),
-    )
+/// A Data with a wrong signature comes before and after the rules are replaced by no rules.
+const NEW_RULES: &str = "up 2 far 0
+in 2 1050 060f070308014115017816031b01001700
+rules 1060 - -
+in 2 1070 060f070308014115017816031b01001700
+";
+
+/// The answers to `NEW_RULES`.
+const NEW_RULES_ANSWERS: &str = "1 passed
+2 denied data Tag any-data
+3 passed
+4 no-rule data
+";
+
+/// Returns whether a new node at a port gives these answers to the events of a script.
+fn gives(alloc: Global, script: &str, answers: &str) -> bool {
+    let given = on_node(alloc, &|alloc, node| prints(alloc, node, script, answers));
+    given == Some(true)
 }
 
 #[test]
-fn first_path_at_a_port(rt: HostRuntime) {
-    assert!(rt; takes_first_path(rt.alloc()) == Some(true));
+fn scripts_at_a_port(rt: HostRuntime) {
+    assert!(rt; gives(rt.alloc(), FIRST_PATH, FIRST_ANSWERS));
+    assert!(rt; gives(rt.alloc(), NEW_RULES, NEW_RULES_ANSWERS));
 }
 
 /// If the step for an event runs out of memory, the number of the event and the word `memory` are
