@@ -6,7 +6,8 @@ use Rattle.node_core.specs.Script.Line.{Lacks}
 -- the whole text, which has no LF and may be empty
 abbrev pub IsFirstLine : List ℕ → List ℕ → Type 0
 IsFirstLine line rest =
-    ((front : List ℕ) × Lacks 10 front × (line ≡ front ++ (10 ∷ []))) ⊎ (Lacks 10 line × (rest ≡ []))
+    ((front : List ℕ) × Lacks 10 front × (line ≡ front ++ (10 ∷ [])))
+    ⊎ (Lacks 10 line × (rest ≡ []))
 
 -- the text is empty or ends with an LF
 abbrev pub IsWhole : List ℕ → Type 0
@@ -16,5 +17,6 @@ IsWhole text = (text ≡ []) ⊎ ((front : List ℕ) × (text ≡ front ++ (10 �
 -- the other is `b`, which is another line; the line of a text that has ended is empty
 abbrev pub Differ : List ℕ → List ℕ → List ℕ → List ℕ → Type 0
 Differ left right a b =
-    (same after behind : List ℕ) × IsWhole same × (left ≡ same ++ (a ++ after)) × (right ≡ same ++ (b ++ behind))
+    (same after behind : List ℕ) × IsWhole same
+    × (left ≡ same ++ (a ++ after)) × (right ≡ same ++ (b ++ behind))
     × IsFirstLine a after × IsFirstLine b behind × (a ≢ b)

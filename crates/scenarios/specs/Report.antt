@@ -46,8 +46,10 @@ AreReported (scenario ∷ scenarios) text passed differ =
     (line rest : List ℕ) × (is_passed : Bool) × (others more : ℕ)
     × Reported scenario line is_passed × (text ≡ line ++ rest)
     × AreReported scenarios rest others more
-    × (passed ≡ (if is_passed then 1 else 0) + others) × (differ ≡ (if is_passed then 0 else 1) + more)
+    × (passed ≡ (if is_passed then 1 else 0) + others)
+    × (differ ≡ (if is_passed then 0 else 1) + more)
 
 -- the last line of a report
 abbrev pub counts_line : ℕ → ℕ → List ℕ
-counts_line passed differ = decimal passed ++ (codes " passed, " ++ (decimal differ ++ codes " differ\n"))
+counts_line passed differ =
+    decimal passed ++ (codes " passed, " ++ (decimal differ ++ codes " differ\n"))
