@@ -100,13 +100,13 @@ const B: &[u8] = b"\x08\x01B";
 const AB: &[u8] = b"\x08\x01A\x08\x01B";
 
 /// Returns what `trial` returns for an empty table and for these names.
-fn tried(
+fn tried<F: Fn(&mut RouteTable, Name<'_>, Name<'_>) -> Option<bool>>(
     alloc: Global,
-    trial: fn(&mut RouteTable, Name<'_>, Name<'_>) -> Option<bool>,
+    trial: &F,
     name: &[u8],
     other: &[u8],
 ) -> Option<bool>
-    requires { IsAlwaysCallable trial }
+    requires { F.IsAlwaysCallable trial.now }
 {
     let (Ok(name), Ok(other)) = (Name::read(name), Name::read(other)) else {
         return Some(false);
@@ -117,22 +117,22 @@ fn tried(
 
 #[test]
 fn prepared_routes(rt: HostRuntime) {
-    assert!(rt; tried(rt.alloc(), adds_a_hop, A, B) == Some(true));
-    assert!(rt; tried(rt.alloc(), adds_a_hop, A, A) == Some(true));
-    assert!(rt; tried(rt.alloc(), registers_a_route, A, B) == Some(true));
-    assert!(rt; tried(rt.alloc(), registers_a_route, AB, A) == Some(true));
-    assert!(rt; tried(rt.alloc(), registers_a_ninth_route, A, B) == Some(true));
-    assert!(rt; tried(rt.alloc(), replaces_a_route, A, B) == Some(true));
+    assert!(rt; tried(rt.alloc(), &adds_a_hop, A, B) == Some(true));
+    assert!(rt; tried(rt.alloc(), &adds_a_hop, A, A) == Some(true));
+    assert!(rt; tried(rt.alloc(), &registers_a_route, A, B) == Some(true));
+    assert!(rt; tried(rt.alloc(), &registers_a_route, AB, A) == Some(true));
+    assert!(rt; tried(rt.alloc(), &registers_a_ninth_route, A, B) == Some(true));
+    assert!(rt; tried(rt.alloc(), &replaces_a_route, A, B) == Some(true));
 }
 
 #[test]
 fn refused_memory_for_routes(rt: HostRuntime) {
-    assert!(rt; tried(rt.alloc(), adds_a_hop, A, B) != Some(false));
-    assert!(rt; tried(rt.alloc(), adds_a_hop, A, A) != Some(false));
-    assert!(rt; tried(rt.alloc(), registers_a_route, A, B) != Some(false));
-    assert!(rt; tried(rt.alloc(), registers_a_route, AB, A) != Some(false));
-    assert!(rt; tried(rt.alloc(), registers_a_ninth_route, A, B) != Some(false));
-    assert!(rt; tried(rt.alloc(), replaces_a_route, A, B) != Some(false));
+    assert!(rt; tried(rt.alloc(), &adds_a_hop, A, B) != Some(false));
+    assert!(rt; tried(rt.alloc(), &adds_a_hop, A, A) != Some(false));
+    assert!(rt; tried(rt.alloc(), &registers_a_route, A, B) != Some(false));
+    assert!(rt; tried(rt.alloc(), &registers_a_route, AB, A) != Some(false));
+    assert!(rt; tried(rt.alloc(), &registers_a_ninth_route, A, B) != Some(false));
+    assert!(rt; tried(rt.alloc(), &replaces_a_route, A, B) != Some(false));
 }
 
 /// Prepares a strategy of a name. Returns whether the strategy is set after the strategy of the

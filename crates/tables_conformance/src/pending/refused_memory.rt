@@ -54,13 +54,13 @@ fn replaces_the_older_one(table: &mut Table, key: Key<'_>, _other: Key<'_>) -> O
 }
 
 /// Returns what `trial` returns for an empty table and for keys without flags and with these names.
-fn tried(
+fn tried<F: Fn(&mut Table, Key<'_>, Key<'_>) -> Option<bool>>(
     alloc: Global,
-    trial: fn(&mut Table, Key<'_>, Key<'_>) -> Option<bool>,
+    trial: &F,
     name: &[u8],
     other: &[u8],
 ) -> Option<bool>
-    requires { IsAlwaysCallable trial }
+    requires { F.IsAlwaysCallable trial.now }
 {
     let (Some(key), Some(other)) = (key_of(name, 0), key_of(other, 0)) else {
         return Some(false);
@@ -79,16 +79,16 @@ const ABC: &[u8] = b"\x08\x01A\x08\x01B\x08\x01C";
 
 #[test]
 fn prepared_interests(rt: HostRuntime) {
-    assert!(rt; tried(rt.alloc(), keeps_what_is_prepared, A, B) == Some(true));
-    assert!(rt; tried(rt.alloc(), keeps_what_is_prepared, ABC, AB) == Some(true));
-    assert!(rt; tried(rt.alloc(), keeps_a_prepared_token, A, B) == Some(true));
-    assert!(rt; tried(rt.alloc(), replaces_the_older_one, A, B) == Some(true));
+    assert!(rt; tried(rt.alloc(), &keeps_what_is_prepared, A, B) == Some(true));
+    assert!(rt; tried(rt.alloc(), &keeps_what_is_prepared, ABC, AB) == Some(true));
+    assert!(rt; tried(rt.alloc(), &keeps_a_prepared_token, A, B) == Some(true));
+    assert!(rt; tried(rt.alloc(), &replaces_the_older_one, A, B) == Some(true));
 }
 
 #[test]
 fn refused_memory_for_interests(rt: HostRuntime) {
-    assert!(rt; tried(rt.alloc(), keeps_what_is_prepared, A, B) != Some(false));
-    assert!(rt; tried(rt.alloc(), keeps_what_is_prepared, ABC, AB) != Some(false));
-    assert!(rt; tried(rt.alloc(), keeps_a_prepared_token, A, B) != Some(false));
-    assert!(rt; tried(rt.alloc(), replaces_the_older_one, A, B) != Some(false));
+    assert!(rt; tried(rt.alloc(), &keeps_what_is_prepared, A, B) != Some(false));
+    assert!(rt; tried(rt.alloc(), &keeps_what_is_prepared, ABC, AB) != Some(false));
+    assert!(rt; tried(rt.alloc(), &keeps_a_prepared_token, A, B) != Some(false));
+    assert!(rt; tried(rt.alloc(), &replaces_the_older_one, A, B) != Some(false));
 }
