@@ -47,3 +47,8 @@ pub mod ListSteps
 pub mod Answering
 pub mod Refused
 pub mod NackSteps
+mod ObjectChanges
+mod VerdictsNamed
+mod Folds
+mod Deliveries
+pub mod Headlines

@@ -25,14 +25,14 @@ use Rattle.forwarder.specs.Request.{ListAsked, Request, generic, Refused, ForLis
 -- ---- a property of each request, proved case by case
 
 module _ (p : Policy) (face : ℕ) (i : PlainInterest) (P : Request → Type 0)
-    (unheard : (reason : DropReason) → P (Refused reason)) (lists : (asked : ListAsked) → list_asked i ≡ Some asked → P (ForList asked)) (tables : P ForTables)
+    (unheard : (reason : DropReason) → P (Refused reason)) (lists : (asked : ListAsked) → list_asked i ≡ Some asked → P (ForList asked)) (tables : begins_with management i.name ≡ true → P ForTables)
     (repository : begins_with management i.name ≡ false → P ForRepository) (for_data : begins_with management i.name ≡ false → P ForData) where
   by_verb : (b : Bool) → begins_with management i.name ≡ false → P (if b then ForRepository else ForData)
   by_verb true e = repository e
   by_verb false e = for_data e
 
   by_name : (b : Bool) → begins_with management i.name ≡ b → P (if b then ForTables else (if is_some (verb_at p.repo i.name) then ForRepository else ForData))
-  by_name true e = tables
+  by_name true e = tables e
   by_name false e = by_verb (is_some (verb_at p.repo i.name)) e
 
   by_list : (asked : Option ListAsked) → list_asked i ≡ asked → P (named_request p i asked)
@@ -53,7 +53,7 @@ module _ (p : Policy) (face : ℕ) (i : PlainInterest) (P : Request → Type 0)
 pub for_list : (p : Policy) (face : ℕ) (i : PlainInterest) (asked : ListAsked) → request_of p face i ≡ ForList asked → list_asked i ≡ Some asked
 for_list p face i asked =
     by_request p face i (λ r. r ≡ ForList asked → list_asked i ≡ Some asked) (λ reason e. cc e)
-    (λ other is e. let same : other ≡ asked = cc e in is ∙ ap (λ (a : ListAsked). Some a) same) (λ e. cc e) (λ other e. cc e) (λ other e. cc e)
+    (λ other is e. let same : other ≡ asked = cc e in is ∙ ap (λ (a : ListAsked). Some a) same) (λ begins e. cc e) (λ other e. cc e) (λ other e. cc e)
 
 -- an Interest for Data asks for no list
 pub for_data : (p : Policy) (face : ℕ) (i : PlainInterest) → request_of p face i ≡ ForData → list_asked i ≡ None

@@ -174,7 +174,7 @@ module _ {V : Type 0} (see : Routes → V) (q : Policy) (command : Result PlainC
           by_request q from i ReadsRequest
           (λ reason is h e. no_effect e answer.verdict (ap (λ (x : Answer). is_done x.verdict) h))
           (λ asked _ is h e. no_effect e answer.verdict (ap (λ (x : Answer). is_done x.verdict) h ∙ list_not_done asked))
-          (λ is h e. on_command is h.0 h.2 (e.2 ∙ ap (λ (said : Decision). after_decision q from (AnInterest whole i) said) (one_said q (AnInterest whole i) e.0 h.0 apart e.1 h.1)))
+          (λ begins is h e. on_command is h.0 h.2 (e.2 ∙ ap (λ (said : Decision). after_decision q from (AnInterest whole i) said) (one_said q (AnInterest whole i) e.0 h.0 apart e.1 h.1)))
           (λ other is h e. other_name other (on_repository is e.0 e.2) answer.verdict)
           (λ other is h e. other_name other (ap (λ (p : Policy). p.routes) e) answer.verdict)
           refl replies effect

@@ -73,7 +73,7 @@ by_verb c Insert now s name octets h = subst (λ (o : Objects). Holds o name oct
 by_verb c Delete now s name octets h = deleted (record c { verb = Delete }) s name octets h
 by_verb c Check now s name octets h = h
 
-commanded : (o : Option RepoCommand) (now : ℕ) (s : Held) (name : List Field) (octets : List ℕ) → Holds (after_some o now s).objects name octets → Holds s.objects name octets
+pub commanded : (o : Option RepoCommand) (now : ℕ) (s : Held) (name : List Field) (octets : List ℕ) → Holds (after_some o now s).objects name octets → Holds s.objects name octets
 commanded None now s name octets h = h
 commanded (Some c) now s name octets h = by_verb c c.verb now s name octets h
 
@@ -94,7 +94,7 @@ record_stored p (Some r) = refl
 
 -- ---- Data that the repository wants
 
-same_name : (a b : List Field) → eq_by_cmp name_cmp a b ≡ true → a ≡ b
+pub same_name : (a b : List Field) → eq_by_cmp name_cmp a b ≡ true → a ≡ b
 same_name a b e = name_cmp-antisymmetric a b ((Equal-is (name_cmp a b)).0 e)
 
 offered : (s : Held) (whole : List ℕ) (d : PlainData) (name : List Field) (octets : List ℕ) → Holds (after_offer d.name (sha256 whole) whole s).objects name octets

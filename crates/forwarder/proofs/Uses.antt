@@ -87,7 +87,7 @@ pub commanded_use : (p : Policy) (face status : ℕ) (i : PlainInterest) → is_
     → request_use i status (request_of p face i) ≡ command_use (command_at i.name) status
 commanded_use p face status i =
     by_request p face i (λ r. is_command r ≡ true → request_use i status r ≡ command_use (command_at i.name) status)
-    (λ reason e. cc e) (λ asked is e. cc e) (λ e. refl) (λ other e. other_use i status other) (λ other e. cc e)
+    (λ reason e. cc e) (λ asked is e. cc e) (λ begins e. refl) (λ other e. other_use i status other) (λ other e. cc e)
 
 -- ---- which events insert a Data
 

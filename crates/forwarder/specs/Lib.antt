@@ -30,3 +30,5 @@ pub mod Forwarding
 pub mod NackRoom
 pub mod SendSpace
 pub mod CommandStep
+pub mod Fold
+pub mod Headline

@@ -3,7 +3,8 @@ ghost use Rattle.std.specs.FinMap as map;
 ghost use Rattle.hmac_keys.specs.KeyFile.{AreApart, NamedKey};
 ghost use Rattle.info_rules.specs.Rule.{PlainRule};
 ghost use Rattle.forwarder.specs.Event.{PlainEvent};
-ghost use Rattle.forwarder.specs.Policy.{Policy, at_moment};
+ghost use Rattle.forwarder.specs.Headline.{Headline, IsNodeRun};
+ghost use Rattle.forwarder.specs.Policy.{Policy, at_moment, first_policy};
 ghost use Rattle.forwarder.specs.Event.{moment, token_in};
 ghost use Rattle.forwarder.specs.Verdict.{Answer};
 ghost use Rattle.forwarder.specs.Effects.{IsAfter, decided_packet, face_in};
@@ -351,4 +352,17 @@ pub fn denials_name_their_rule()
         × IsDenial (at_moment reply.was (moment event)) (face_in event)
         (token_in event) packet decided.NoRule
         answer }
+{}
+
+/// Law: the headline (`specs/Headline.antt`) is true of each run of a node. At each event, a
+/// command or Data that rules decide gets the verdict of the first matching rule, or the verdict
+/// that no rule matched. Routes, strategies and the repository are the fold of the commands and
+/// Data that were allowed, of the faces that closed, and of time. No command is allowed twice. Each
+/// Data that is sent was asked for. An object is stored only if it was wanted and allowed, and is
+/// removed only by an allowed delete.
+pub fn headline()
+    ensures { (rules : List PlainRule) (keys : List NamedKey) (repo : List Field) (run : Run)
+        (p : Policy) → IsNodeRun (first_policy rules keys repo) run
+        → IsPolicyOf (first_policy rules keys repo) run p
+        → Headline (first_policy rules keys repo) run p }
 {}

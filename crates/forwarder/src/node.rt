@@ -1,9 +1,13 @@
 ghost use Rattle.std.specs.Prelude.{◌≡◌, ◌++◌, List, length, drop, Err, IfOk, IfErr, IsTrue, OnErr, IsOk, MatchOption, slice_get};
+ghost use Rattle.hmac_keys.specs.KeyFile.{NamedKey};
+ghost use Rattle.info_rules.specs.Rule.{PlainRule};
 ghost use Rattle.ndn_packets.specs.FrameReading.{frame_at};
+ghost use Rattle.ndn_tlv.specs.Element.{Field};
 ghost use Rattle.forwarder.specs.Event.{moment, plain, Send};
 ghost use Rattle.forwarder.specs.Node.{AsksNoMemory, IsStep, ChangesCacheOnly};
 ghost use Rattle.forwarder.specs.Parts.{first_node, is_bad_prefix as is_bad_prefix_of, parts_fault};
-ghost use Rattle.forwarder.specs.Policy.{HasSameTables, Policy, at_moment};
+ghost use Rattle.forwarder.specs.Headline.{Headline, IsNodeRun};
+ghost use Rattle.forwarder.specs.Policy.{HasSameTables, Policy, at_moment, first_policy};
 ghost use Rattle.forwarder.specs.Runs.{Run, Start, Then, BringsKeysApart, IsRun, Stands};
 ghost use Rattle.forwarder.specs.DataSends.{BringsOctets};
 ghost use Rattle.forwarder.specs.State.{IsSound};
@@ -235,6 +239,15 @@ impl Node {
             (record { verdict = verdict_of verdict; sends = sends }))
             × Stands first (Then past (plain event.entry)
             (record { verdict = verdict_of verdict; sends = sends })) self.new) }
+        // The headline is true of each run of a node that this event and its answer extend.
+        ensures headline { IfOk result (λ verdict.
+            let sends = drop (length outbox.old) outbox.new in (rules : List PlainRule) (keys : List NamedKey) (repo : List Field) (past : Run)
+            → IsNodeRun (first_policy rules keys repo) past
+            → Stands (first_policy rules keys repo) past self.old
+            → IsNodeRun (first_policy rules keys repo) (Then past (plain event.entry)
+            (record { verdict = verdict_of verdict; sends = sends }))
+            × Headline (first_policy rules keys repo) (Then past (plain event.entry)
+            (record { verdict = verdict_of verdict; sends = sends })) self.new.policy) }
         ensures memory { OnErr result (ChangesCacheOnly self.old self.new
             × (outbox.new ≡ outbox.old)) }
         ensures without_memory { AsksNoMemory self.old (plain event.entry) → IsOk result }

@@ -5,6 +5,7 @@ use Rattle.forwarder.specs.State.{state_of}
 use Rattle.forwarder.specs.Verdict.{passed}
 use Rattle.forwarder.specs.declared.verdict.Verdict.TheVariants as said
 use Rattle.forwarder.proofs.GoingOn.{goes_on, sound_after, stays_quiet, tick_step}
+use Rattle.forwarder.proofs.Headlines.{extends_headline}
 use Rattle.forwarder.proofs.Soundness.{step_sound}
 use Rattle.forwarder.proofs.StoredData.{later_stores, undecided_stores}
 use Rattle.forwarder.proofs.node.Node.step.Goals as goal
@@ -90,3 +91,34 @@ returns-in-NewRules-clause-run c =
     rw (← c.self.view_is, ← c.outbox.view_is, c.in-NewRules.is)
     (goes_on (state_of c.self.inside.state) (state_of c.replace_rules.new.self) c.outbox.inside.sends.sends c.outbox.inside.sends.sends
     (NewRules c.in-NewRules.rules c.in-NewRules.keys c.in-NewRules.now) c.replace_rules.result (stays_quiet _ _ _ _ c.replace_rules.result c.replace_rules.ensures.step))
+
+pub returns-in-Packet-clause-headline : goal.returns-in-Packet-clause-headline
+returns-in-Packet-clause-headline c =
+    rw (← c.self.view_is, ← c.outbox.view_is, c.in-Packet.is)
+    (IfOk-weaker c.receive.result _ _
+    (λ verdict step. extends_headline (state_of c.self.inside.state) (state_of c.receive.new.self) c.outbox.inside.sends.sends c.receive.new.out.sends
+    (Packet c.in-Packet.face c.in-Packet.now c.in-Packet.octets.now) verdict c.receive.ensures.octets tt step) c.receive.ensures.handled)
+
+pub returns-in-FaceUp-clause-headline : goal.returns-in-FaceUp-clause-headline
+returns-in-FaceUp-clause-headline c =
+    rw (← c.self.view_is, ← c.outbox.view_is, c.in-FaceUp.is)
+    (extends_headline (state_of c.self.inside.state) (state_of c.open.new.self) c.outbox.inside.sends.sends c.outbox.inside.sends.sends
+    (FaceUp c.in-FaceUp.face c.in-FaceUp.scope c.in-FaceUp.now) c.open.result tt tt (stays_quiet _ _ _ _ c.open.result c.open.ensures))
+
+pub returns-in-FaceDown-clause-headline : goal.returns-in-FaceDown-clause-headline
+returns-in-FaceDown-clause-headline c =
+    rw (← c.self.view_is, ← c.outbox.view_is, c.in-FaceDown.is)
+    (extends_headline (state_of c.self.inside.state) (state_of c.close.new.self) c.outbox.inside.sends.sends c.outbox.inside.sends.sends
+    (FaceDown c.in-FaceDown.face c.in-FaceDown.now) c.close.result tt tt (stays_quiet _ _ _ _ c.close.result c.close.ensures))
+
+pub returns-in-Tick-clause-headline : goal.returns-in-Tick-clause-headline
+returns-in-Tick-clause-headline c =
+    rw (← c.self.view_is, ← c.outbox.view_is, c.in-Tick.is)
+    (extends_headline (state_of c.self.inside.state) (state_of c.pass_time.new.self) c.outbox.inside.sends.sends c.outbox.inside.sends.sends (Tick c.in-Tick.now) said.Passed tt tt
+    (stays_quiet _ _ _ _ said.Passed (tick_step (state_of c.self.inside.state) (state_of c.pass_time.new.self) c.in-Tick.now c.pass_time.ensures.later)))
+
+pub returns-in-NewRules-clause-headline : goal.returns-in-NewRules-clause-headline
+returns-in-NewRules-clause-headline c =
+    rw (← c.self.view_is, ← c.outbox.view_is, c.in-NewRules.is)
+    (extends_headline (state_of c.self.inside.state) (state_of c.replace_rules.new.self) c.outbox.inside.sends.sends c.outbox.inside.sends.sends
+    (NewRules c.in-NewRules.rules c.in-NewRules.keys c.in-NewRules.now) c.replace_rules.result tt c.replace_rules.ensures.apart (stays_quiet _ _ _ _ c.replace_rules.result c.replace_rules.ensures.step))
