@@ -148,7 +148,7 @@ module _ (first : NodeState) (fresh : IsNew first) where
   IsTextOfRun-from_plays : (lines : List (List ℕ)) (to : Place) (text : List ℕ) → (plays : Plays lines (start first) to text) → IsTextOfRun first plays.events text
   IsTextOfRun-from_plays lines to text plays =
       let stands = runs_stand first.policy Start first to.node plays.events plays.outcomes fresh.now plays.runs tt fresh.stands in
-      record { outcomes = plays.outcomes; last = to.node; runs = plays.runs; written = plays.text_is; is_run = stands.0; stands = stands.1 }
+      record { outcomes = plays.outcomes; last = to.node; runs = plays.runs; written = plays.text_is; is_run = stands.0; stands = stands.1; headline = stands.2 }
 
   BeginsWith-known : (unread left : Option (List ℕ)) (stream : List ℕ) (lines : List (List ℕ)) (rest : List ℕ) (to : Place) (text : List ℕ) (plays : Plays lines (start first) to text)
       → Consumes unread left stream → stream ≡ joined lines ++ rest → IfSome unread (λ script. BeginsWithEvents script plays.events)

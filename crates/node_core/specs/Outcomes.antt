@@ -1,8 +1,12 @@
 -- The handling of consecutive events.
 use Rattle.std.specs.Prelude.{◌≡◌, List, [], ◌∷◌}
+use Rattle.hmac_keys.specs.KeyFile.{NamedKey}
+use Rattle.info_rules.specs.Rule.{PlainRule}
+use Rattle.ndn_tlv.specs.Element.{Field}
 use Rattle.forwarder.specs.Event.{PlainEvent}
 use Rattle.forwarder.specs.Node.{NodeState, IsStep, ChangesCacheOnly, AsksNoMemory}
-use Rattle.forwarder.specs.Policy.{Policy}
+use Rattle.forwarder.specs.Headline.{Headline, IsNodeRun}
+use Rattle.forwarder.specs.Policy.{Policy, first_policy}
 use Rattle.forwarder.specs.Runs.{Run, Then, BringsKeysApart, IsRun, Stands}
 use Rattle.forwarder.specs.DataSends.{BringsOctets}
 use Rattle.forwarder.specs.Verdict.{Answer}
@@ -44,10 +48,20 @@ run_from past (event ∷ events) (Answered answer ∷ outcomes) =
     run_from (Then past event answer) events outcomes
 run_from past (event ∷ events) (NoMemory ∷ outcomes) = run_from past events outcomes
 
+-- If `first` is the policy of a new node and `past` is a run of a node, then `longer` is a run of a
+-- node too, and the headline is true of this run, which leads to the policy `p`.
+abbrev pub KeepsHeadline : Policy → Run → Run → Policy → Type 0
+KeepsHeadline first past longer p =
+    (rules : List PlainRule) (keys : List NamedKey) (repo : List Field)
+    → first ≡ first_policy rules keys repo → IsNodeRun first past
+    → IsNodeRun first longer × Headline first longer p
+
 -- If the old node agrees (`Stands`) with a valid run from a policy whose time is 0, then this run,
--- extended by the answered events, is valid, and the new node agrees with the extended run.
+-- extended by the answered events, is valid, the new node agrees with the extended run, and the
+-- headline is true of the extended run.
 abbrev pub ExtendsRuns : NodeState → List PlainEvent → List Outcome → NodeState → Type 0
 ExtendsRuns old events outcomes new =
     (first : Policy) (past : Run) → first.now ≡ 0 → IsRun first past → Stands first past old
     → IsRun first (run_from past events outcomes)
     × Stands first (run_from past events outcomes) new
+    × KeepsHeadline first past (run_from past events outcomes) new.policy

@@ -3,7 +3,7 @@ use Rattle.std.specs.Prelude.{◌≡◌, ℕ, ◌+◌, ◌⊎◌, List, [], ◌�
 use Rattle.std.specs.List.{AllByRecursion, flat_map}
 use Rattle.forwarder.specs.Event.{PlainEvent}
 use Rattle.forwarder.specs.Node.{NodeState}
-use Rattle.node_core.specs.Outcomes.{Outcome, AreOutcomes, run_from}
+use Rattle.node_core.specs.Outcomes.{Outcome, AreOutcomes, KeepsHeadline, run_from}
 use Rattle.forwarder.specs.Runs.{Start, IsRun, Stands}
 use Rattle.node_core.specs.Script.Line.{Lacks, IsSkipped, IsEventLine, IsBadLine}
 use Rattle.node_core.specs.Script.Writing.{script_text}
@@ -75,3 +75,5 @@ pub record IsTextOfRun (first : NodeState) (events : List PlainEvent) (text : Li
   -- the answered events, with their answers, form a valid run
   pub is_run : IsRun first.policy (run_from Start events outcomes)
   pub stands : Stands first.policy (run_from Start events outcomes) last
+  -- and the headline is true of this run, if `first` is a new node
+  pub headline : KeepsHeadline first.policy Start (run_from Start events outcomes) last.policy
