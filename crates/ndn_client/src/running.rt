@@ -11,7 +11,7 @@ use ndn_jobs::{Job, ToolFault, parse_words};
 use ndn_requests::{Exchange, Outcome, Progress};
 use std::env::Env;
 use std::fs::File;
-use std::io::{BufRead, BufReader, Input, Write};
+use std::io::{BufRead, BufReader, Input, Read, Write};
 use std::net::{Ipv4Addr, Net, UdpSocket};
 use std::rt::Files;
 use std::time::{Clock, Duration, Instant, SystemTime};
@@ -19,6 +19,12 @@ use std::{env, io};
 
 /// The greatest length of the payload of a UDP datagram over IPv4, in octets.
 const MAX_DATAGRAM: usize = 65_507;
+
+/// The path of the system's random source.
+const RANDOM_SOURCE: &str = "/dev/urandom";
+
+/// The number of random octets that are read for a Nonce.
+const RANDOM_OCTETS: usize = 16;
 
 /// The time to wait for an answer, in seconds.
 const ANSWER_SECONDS: u64 = 4;
@@ -134,10 +140,31 @@ fn print<R: Print>(rt: &R, text: &[u8]) -> Result<(), Fault> {
 }
 
 /// Returns the job of the command line.
-fn asked_job<R: Clock + Env + AllocGlobal>(rt: &R) -> Result<Job, Fault> {
+fn asked_job<R: Clock + Env + AllocGlobal + Files>(rt: &R) -> Result<Job, Fault> {
     let now = milliseconds(rt)?;
     let arguments = arguments_of(rt)?;
-    Ok(parse_words(rt.alloc(), now, arguments.as_slice())?)
+    let mut random = [0; RANDOM_OCTETS];
+    let count = draw(rt, &mut random);
+    Ok(parse_words(
+        rt.alloc(),
+        now,
+        &random[..count],
+        arguments.as_slice(),
+    )?)
+}
+
+/// Writes octets of the system's random source to the front of the buffer. Returns how many octets
+/// were written: 0 if the source cannot be read.
+fn draw<R: Files>(rt: &R, buffer: &mut [u8]) -> usize
+    ensures { result ≤ length buffer.new }
+{
+    let Ok(mut source) = File::open(rt, RANDOM_SOURCE) else {
+        return 0;
+    };
+    match source.read(buffer) {
+        Ok(count) => count,
+        Err(_) => 0,
+    }
 }
 
 /// Waits on this socket for the answer to the request that was sent last. Returns `None` if the

@@ -74,9 +74,8 @@ printed instead, with tabs between its columns. Without --send, the request is o
 hexadecimal. The option --from requires --send.
 
 The signature of a command is HmacWithSha256 with --key, and DigestSha256 without --key. If --time
-is absent, the signature time is the time of the clock. If --nonce is absent, the Nonce is computed
-from the arguments and the time. For the verb `list`, only the options --nonce, --send and --from
-are allowed.
+is absent, the signature time is the time of the clock. If --nonce is absent, the Nonce is random.
+For the verb `list`, only the options --nonce, --send and --from are allowed.
 
 Example: send a command from port 7001 to the node at port 6363. The command adds a next hop for /A
 through face 2. Then get the list of routes.
@@ -102,9 +101,8 @@ printed instead, with tabs between its columns. Without --send, the request is o
 hexadecimal. The option --from requires --send.
 
 The signature of a command is HmacWithSha256 with --key, and DigestSha256 without --key. If --time
-is absent, the signature time is the time of the clock. If --nonce is absent, the Nonce is computed
-from the arguments and the time. For the verb `list`, only the options --nonce, --send and --from
-are allowed.
+is absent, the signature time is the time of the clock. If --nonce is absent, the Nonce is random.
+For the verb `list`, only the options --nonce, --send and --from are allowed.
 
 Example: print a command that sets the strategy of /A to multicast.
   $ ndn_tool strategy set /A multicast --keys ops.keys --key /ops/KEY/1";
@@ -115,8 +113,7 @@ printed. Without --send, the command is only printed, in hexadecimal. The option
 --send.
 
 The signature is HmacWithSha256 with --key, and DigestSha256 without --key. If --time is absent, the
-signature time is the time of the clock. If --nonce is absent, the Nonce is computed from the
-arguments and the time.
+signature time is the time of the clock. If --nonce is absent, the Nonce is random.
 
 Example: print a command that erases at most 10 Data under /A.
   $ ndn_tool cache erase /A --count 10 --keys ops.keys --key /ops/KEY/1";
@@ -130,8 +127,7 @@ With --send, the command is sent, and then the fields of the answer are printed.
 command is only printed, in hexadecimal. The option --from requires --send.
 
 The signature is HmacWithSha256 with --key, and DigestSha256 without --key. If --time is absent, the
-signature time is the time of the clock. If --nonce is absent, the Nonce is computed from the
-arguments and the time.
+signature time is the time of the clock. If --nonce is absent, the Nonce is random.
 
 Example: print a command that lets the repository with the prefix /repo store the Data /A.
   $ ndn_tool repo insert /repo /A --keys ops.keys --key /ops/KEY/1";
@@ -188,8 +184,7 @@ pub const PEEK: &str =
     "With --to, the Interest is sent. Then the Data or the Nack that comes back is printed in the
 format of explain. With --to and --raw, only the Content of the Data is printed. Without --to, the
 Interest is only printed, in hexadecimal. The option --from requires --to. If --nonce is absent, the
-Nonce is computed from the arguments and the time of the clock. If a Nack comes, or if no answer
-comes within 4 seconds, the exit status is 1.
+Nonce is random. If a Nack comes, or if no answer comes within 4 seconds, the exit status is 1.
 
 Example: the Content of /A, from the node at port 6363.
   $ ndn_tool peek /A --to 6363 --raw";

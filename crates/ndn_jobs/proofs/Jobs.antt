@@ -17,8 +17,8 @@ use Rattle.ndn_jobs.specs.RepositoryForm.{IsRepositoryJob}
 use Rattle.ndn_jobs.specs.Ask.{is_list, IsListJob, IsPeekJob}
 use Rattle.ndn_jobs.specs.Command.{IsJobFor, IsListedJob}
 
-module _ (now : ℕ) (words name : List ℕ) (rows : List Row) where
-  pub an_interest : (job : Job) → IsJobFor sub.Interest now words name rows job → (x : LinkJob) × IsLinkJob rows x
+module _ (now : ℕ) (seed name : List ℕ) (rows : List Row) where
+  pub an_interest : (job : Job) → IsJobFor sub.Interest now seed name rows job → (x : LinkJob) × IsLinkJob rows x
   an_interest (Help error) h = absurd h
   an_interest (Interest job) h = (job, h)
   an_interest (Data job) h = absurd h
@@ -29,7 +29,7 @@ module _ (now : ℕ) (words name : List ℕ) (rows : List Row) where
   an_interest (Send job) h = absurd h
   an_interest (Ask job) h = absurd h
 
-  pub a_data : (job : Job) → IsJobFor sub.Data now words name rows job → (x : DataJob) × IsDataJob rows x
+  pub a_data : (job : Job) → IsJobFor sub.Data now seed name rows job → (x : DataJob) × IsDataJob rows x
   a_data (Help error) h = absurd h
   a_data (Interest job) h = absurd h
   a_data (Data job) h = (job, h)
@@ -40,7 +40,7 @@ module _ (now : ℕ) (words name : List ℕ) (rows : List Row) where
   a_data (Send job) h = absurd h
   a_data (Ask job) h = absurd h
 
-  pub a_command : (job : Job) → IsJobFor sub.Command now words name rows job → (x : CommandJob) × IsCommandJob rows x
+  pub a_command : (job : Job) → IsJobFor sub.Command now seed name rows job → (x : CommandJob) × IsCommandJob rows x
   a_command (Help error) h = absurd h
   a_command (Interest job) h = absurd h
   a_command (Data job) h = absurd h
@@ -51,7 +51,7 @@ module _ (now : ℕ) (words name : List ℕ) (rows : List Row) where
   a_command (Send job) h = absurd h
   a_command (Ask job) h = absurd h
 
-  pub a_cache : (job : Job) → IsJobFor sub.Cache now words name rows job → (x : CommandJob) × IsShortJob now words name rows x
+  pub a_cache : (job : Job) → IsJobFor sub.Cache now seed name rows job → (x : CommandJob) × IsShortJob now seed name rows x
   a_cache (Help error) h = absurd h
   a_cache (Interest job) h = absurd h
   a_cache (Data job) h = absurd h
@@ -62,7 +62,7 @@ module _ (now : ℕ) (words name : List ℕ) (rows : List Row) where
   a_cache (Send job) h = absurd h
   a_cache (Ask job) h = absurd h
 
-  pub a_repository : (job : Job) → IsJobFor sub.Repository now words name rows job → (x : CommandJob) × IsRepositoryJob now words rows x
+  pub a_repository : (job : Job) → IsJobFor sub.Repository now seed name rows job → (x : CommandJob) × IsRepositoryJob now seed rows x
   a_repository (Help error) h = absurd h
   a_repository (Interest job) h = absurd h
   a_repository (Data job) h = absurd h
@@ -73,7 +73,7 @@ module _ (now : ℕ) (words name : List ℕ) (rows : List Row) where
   a_repository (Send job) h = absurd h
   a_repository (Ask job) h = absurd h
 
-  pub a_tag : (job : Job) → IsJobFor sub.Tag now words name rows job → (x : TagJob) × IsTagJob rows x
+  pub a_tag : (job : Job) → IsJobFor sub.Tag now seed name rows job → (x : TagJob) × IsTagJob rows x
   a_tag (Help error) h = absurd h
   a_tag (Interest job) h = absurd h
   a_tag (Data job) h = absurd h
@@ -84,7 +84,7 @@ module _ (now : ℕ) (words name : List ℕ) (rows : List Row) where
   a_tag (Send job) h = absurd h
   a_tag (Ask job) h = absurd h
 
-  pub a_show : (job : Job) → IsJobFor sub.Show now words name rows job → (x : Vec ℕ Global) × IsShowJob rows x
+  pub a_show : (job : Job) → IsJobFor sub.Show now seed name rows job → (x : Vec ℕ Global) × IsShowJob rows x
   a_show (Help error) h = absurd h
   a_show (Interest job) h = absurd h
   a_show (Data job) h = absurd h
@@ -95,7 +95,7 @@ module _ (now : ℕ) (words name : List ℕ) (rows : List Row) where
   a_show (Send job) h = absurd h
   a_show (Ask job) h = absurd h
 
-  pub an_explanation : (job : Job) → IsJobFor sub.Explain now words name rows job → (x : ExplainJob) × IsExplainJob rows x
+  pub an_explanation : (job : Job) → IsJobFor sub.Explain now seed name rows job → (x : ExplainJob) × IsExplainJob rows x
   an_explanation (Help error) h = absurd h
   an_explanation (Interest job) h = absurd h
   an_explanation (Data job) h = absurd h
@@ -106,7 +106,7 @@ module _ (now : ℕ) (words name : List ℕ) (rows : List Row) where
   an_explanation (Send job) h = absurd h
   an_explanation (Ask job) h = absurd h
 
-  pub a_send : (job : Job) → IsJobFor sub.Send now words name rows job → (x : SendJob) × IsSendJob rows x
+  pub a_send : (job : Job) → IsJobFor sub.Send now seed name rows job → (x : SendJob) × IsSendJob rows x
   a_send (Help error) h = absurd h
   a_send (Interest job) h = absurd h
   a_send (Data job) h = absurd h
@@ -117,7 +117,7 @@ module _ (now : ℕ) (words name : List ℕ) (rows : List Row) where
   a_send (Send job) h = (job, h)
   a_send (Ask job) h = absurd h
 
-  pub a_peek : (job : Job) → IsJobFor sub.Peek now words name rows job → (x : AskJob) × IsPeekJob now words rows x
+  pub a_peek : (job : Job) → IsJobFor sub.Peek now seed name rows job → (x : AskJob) × IsPeekJob now seed rows x
   a_peek (Help error) h = absurd h
   a_peek (Interest job) h = absurd h
   a_peek (Data job) h = absurd h
@@ -131,7 +131,7 @@ module _ (now : ℕ) (words name : List ℕ) (rows : List Row) where
   -- If the verb is `list`, the job of `route` or `strategy` is a request for a list. If the verb is
   -- not `list`, the job is a command that is given by its short form.
 
-  pub a_list : is_list rows ≡ true → (job : Job) → IsListedJob now words name rows job → (x : AskJob) × IsListJob now words name rows x
+  pub a_list : is_list rows ≡ true → (job : Job) → IsListedJob now seed name rows job → (x : AskJob) × IsListJob now seed name rows x
   a_list said (Help error) h = absurd h
   a_list said (Interest job) h = absurd h
   a_list said (Data job) h = absurd h
@@ -142,7 +142,7 @@ module _ (now : ℕ) (words name : List ℕ) (rows : List Row) where
   a_list said (Send job) h = absurd h
   a_list said (Ask job) h = (job, h.1)
 
-  pub a_short : is_list rows ≡ false → (job : Job) → IsListedJob now words name rows job → (x : CommandJob) × IsShortJob now words name rows x
+  pub a_short : is_list rows ≡ false → (job : Job) → IsListedJob now seed name rows job → (x : CommandJob) × IsShortJob now seed name rows x
   a_short other (Help error) h = absurd h
   a_short other (Interest job) h = absurd h
   a_short other (Data job) h = absurd h

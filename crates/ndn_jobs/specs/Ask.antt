@@ -15,10 +15,10 @@ use Rattle.ndn_jobs.specs.Options.{value_at, flag_at, Has, MayHave, HasOr, IsFla
 use Rattle.ndn_jobs.specs.Nonce.{nonce_of}
 
 -- an Interest without a hop limit, parameters or a signature; if no Nonce is given, the Nonce is
--- computed from the time and the words of the command line
-pub record IsPlainInterest (now : ℕ) (words : List ℕ) (rows : List Row) (i : InterestJob)
+-- computed from the time and the seed (`seed_of`)
+pub record IsPlainInterest (now : ℕ) (seed : List ℕ) (rows : List Row) (i : InterestJob)
     : Type 0 where
-  pub nonce : HasOr (nonce_of now words) (value_at rows (codes "nonce")) IsNonce i.nonce
+  pub nonce : HasOr (nonce_of now seed) (value_at rows (codes "nonce")) IsNonce i.nonce
   pub hop_limit : i.hop_limit ≡ None
   pub parameters : i.parameters ≡ None
   pub time : i.time ≡ None
@@ -54,7 +54,7 @@ abbrev pub list_of : List ℕ → NodeList
 list_of subcommand = if bytes_eq subcommand (codes "route") then Routes else Strategies
 
 -- the Interest for the first segment of a list, whatever the list's version
-pub record IsListJob (now : ℕ) (words subcommand : List ℕ) (rows : List Row) (job : AskJob)
+pub record IsListJob (now : ℕ) (seed subcommand : List ℕ) (rows : List Row) (job : AskJob)
     : Type 0 where
   pub alone : is_alone rows ≡ true
   pub view : job.view ≡ Table (list_of subcommand)
@@ -62,7 +62,7 @@ pub record IsListJob (now : ℕ) (words subcommand : List ℕ) (rows : List Row)
   pub can_be_prefix : job.interest.can_be_prefix ≡ true
   pub must_be_fresh : job.interest.must_be_fresh ≡ true
   pub lifetime : job.interest.lifetime ≡ None
-  pub plain : IsPlainInterest now words rows job.interest
+  pub plain : IsPlainInterest now seed rows job.interest
   pub ports : IsPorts (value_at rows (codes "send")) (value_at rows (codes "from")) job.ports
 
 -- ---- one Data
@@ -70,7 +70,7 @@ pub record IsListJob (now : ℕ) (words subcommand : List ℕ) (rows : List Row)
 abbrev pub view_of : Bool → View
 view_of raw = if raw then Content else Lines
 
-pub record IsPeekJob (now : ℕ) (words : List ℕ) (rows : List Row) (job : AskJob) : Type 0 where
+pub record IsPeekJob (now : ℕ) (seed : List ℕ) (rows : List Row) (job : AskJob) : Type 0 where
   pub raw : Bool
   pub said : IsFlag (flag_at rows (codes "raw")) raw
   pub view : job.view ≡ view_of raw
@@ -78,5 +78,5 @@ pub record IsPeekJob (now : ℕ) (words : List ℕ) (rows : List Row) (job : Ask
   pub can_be_prefix : IsFlag (flag_at rows (codes "can-be-prefix")) job.interest.can_be_prefix
   pub must_be_fresh : IsFlag (flag_at rows (codes "must-be-fresh")) job.interest.must_be_fresh
   pub lifetime : MayHave (value_at rows (codes "lifetime")) IsNumber job.interest.lifetime
-  pub plain : IsPlainInterest now words rows job.interest
+  pub plain : IsPlainInterest now seed rows job.interest
   pub ports : IsPorts (value_at rows (codes "to")) (value_at rows (codes "from")) job.ports

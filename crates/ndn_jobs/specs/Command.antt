@@ -20,7 +20,7 @@ use Rattle.ndn_jobs.specs.Options.{IsLinkJob, IsDataJob, IsCommandJob, IsTagJob,
 use Rattle.ndn_jobs.specs.ShortForm.{IsShortJob}
 use Rattle.ndn_jobs.specs.RepositoryForm.{IsRepositoryJob}
 use Rattle.ndn_jobs.specs.Ask.{is_list, IsListJob, IsPeekJob}
-use Rattle.ndn_jobs.specs.Nonce.{words_of}
+use Rattle.ndn_jobs.specs.Nonce.{seed_of}
 use Rattle.ndn_command_line.specs.CommandLine.{subcommand_named, tool}
 
 -- what a parser error means: the command line asks for help or for the version, memory ran out, or
@@ -36,43 +36,43 @@ reading_of kind error = Err (Usage (CommandLine error))
 -- the job of a subcommand whose verb may be `list`: a request for the list if the verb is `list`,
 -- otherwise a command
 abbrev pub IsListedJob : ℕ → List ℕ → List ℕ → List Row → Job → Type 0
-IsListedJob now words name rows (Command job) =
-    (is_list rows ≡ false) × IsShortJob now words name rows job
-IsListedJob now words name rows (Ask job) =
-    (is_list rows ≡ true) × IsListJob now words name rows job
-IsListedJob now words name rows job = ⊥
+IsListedJob now seed name rows (Command job) =
+    (is_list rows ≡ false) × IsShortJob now seed name rows job
+IsListedJob now seed name rows (Ask job) =
+    (is_list rows ≡ true) × IsListJob now seed name rows job
+IsListedJob now seed name rows job = ⊥
 
 -- The job that the options `rows` of a subcommand describe. `name` is the subcommand's name, `now`
--- is the time, and `words` are the words of the command line. The subcommands `route`, `strategy`,
--- `cache` and `repo` are short forms of the subcommand `command`. But the subcommands `route` and
--- `strategy` with the verb `list` request a list.
+-- is the time, and `seed` is what a Nonce is computed from (`seed_of`). The subcommands `route`,
+-- `strategy`, `cache` and `repo` are short forms of the subcommand `command`. But the subcommands
+-- `route` and `strategy` with the verb `list` request a list.
 abbrev pub IsJobFor : Subcommand → ℕ → List ℕ → List ℕ → List Row → Job → Type 0
-IsJobFor sub.Interest now words name rows (Interest job) = IsLinkJob rows job
-IsJobFor sub.Data now words name rows (Data job) = IsDataJob rows job
-IsJobFor sub.Command now words name rows (Command job) = IsCommandJob rows job
-IsJobFor sub.Route now words name rows job = IsListedJob now words name rows job
-IsJobFor sub.Strategy now words name rows job = IsListedJob now words name rows job
-IsJobFor sub.Cache now words name rows (Command job) = IsShortJob now words name rows job
-IsJobFor sub.Repository now words name rows (Command job) = IsRepositoryJob now words rows job
-IsJobFor sub.Tag now words name rows (Tag job) = IsTagJob rows job
-IsJobFor sub.Show now words name rows (Show octets) = IsShowJob rows octets
-IsJobFor sub.Explain now words name rows (Explain job) = IsExplainJob rows job
-IsJobFor sub.Send now words name rows (Send job) = IsSendJob rows job
-IsJobFor sub.Peek now words name rows (Ask job) = IsPeekJob now words rows job
-IsJobFor subcommand now words name rows job = ⊥
+IsJobFor sub.Interest now seed name rows (Interest job) = IsLinkJob rows job
+IsJobFor sub.Data now seed name rows (Data job) = IsDataJob rows job
+IsJobFor sub.Command now seed name rows (Command job) = IsCommandJob rows job
+IsJobFor sub.Route now seed name rows job = IsListedJob now seed name rows job
+IsJobFor sub.Strategy now seed name rows job = IsListedJob now seed name rows job
+IsJobFor sub.Cache now seed name rows (Command job) = IsShortJob now seed name rows job
+IsJobFor sub.Repository now seed name rows (Command job) = IsRepositoryJob now seed rows job
+IsJobFor sub.Tag now seed name rows (Tag job) = IsTagJob rows job
+IsJobFor sub.Show now seed name rows (Show octets) = IsShowJob rows octets
+IsJobFor sub.Explain now seed name rows (Explain job) = IsExplainJob rows job
+IsJobFor sub.Send now seed name rows (Send job) = IsSendJob rows job
+IsJobFor sub.Peek now seed name rows (Ask job) = IsPeekJob now seed rows job
+IsJobFor subcommand now seed name rows job = ⊥
 
 abbrev pub IsFoundJob : Option Subcommand → ℕ → List ℕ → List ℕ → List Row → Job → Type 0
-IsFoundJob None now words name rows job = ⊥
-IsFoundJob (Some subcommand) now words name rows job = IsJobFor subcommand now words name rows job
+IsFoundJob None now seed name rows job = ⊥
+IsFoundJob (Some subcommand) now seed name rows job = IsJobFor subcommand now seed name rows job
 
 -- the job of the subcommand with this name; there is no job if there is no such subcommand
 abbrev pub IsNamedJob : ℕ → List ℕ → List ℕ → List Row → Job → Type 0
-IsNamedJob now words name rows job = IsFoundJob (subcommand_named name) now words name rows job
+IsNamedJob now seed name rows job = IsFoundJob (subcommand_named name) now seed name rows job
 
 -- the job of the subcommand that the parser found; there is no job if it found no subcommand
 abbrev pub IsJob : ℕ → List ℕ → Option (List ℕ × List Row) → Job → Type 0
-IsJob now words None job = ⊥
-IsJob now words (Some used) job = IsNamedJob now words used.0 used.1 job
+IsJob now seed None job = ⊥
+IsJob now seed (Some used) job = IsNamedJob now seed used.0 used.1 job
 
 -- ---- command lines
 
@@ -81,30 +81,31 @@ IsJob now words (Some used) job = IsNamedJob now words used.0 used.1 job
 abbrev pub faults : List (List ℕ) → Kinds
 faults arguments = fault_of tool arguments
 
--- the job of the subcommand in these arguments; the first argument is the program's name
-abbrev pub IsJobOf : ℕ → List (List ℕ) → Job → Type 0
-IsJobOf now arguments job =
-    IsJob now (words_of (drop 1 arguments)) (subcommand_of tool arguments) job
+-- the job of the subcommand in these arguments; the first argument is the program's name, and
+-- `random` are random octets for a Nonce
+abbrev pub IsJobOf : ℕ → List ℕ → List (List ℕ) → Job → Type 0
+IsJobOf now random arguments job =
+    IsJob now (seed_of random (drop 1 arguments)) (subcommand_of tool arguments) job
 
 -- the parser's error is a request for the help or for the version
 abbrev pub IsText : ErrorKind → Type 0
 IsText kind = (kind ≡ DisplayHelp) ⊎ (kind ≡ DisplayVersion)
 
 -- the arguments ask for help or the version, or for the job of their subcommand
-abbrev pub Asks : ℕ → List (List ℕ) → Job → Type 0
-Asks now arguments (Help error) =
+abbrev pub Asks : ℕ → List ℕ → List (List ℕ) → Job → Type 0
+Asks now random arguments (Help error) =
     IsText (kind_of error) × IsAmong (kind_of error) (faults arguments)
-Asks now arguments job = (faults arguments ≡ []) × IsJobOf now arguments job
+Asks now random arguments job = (faults arguments ≡ []) × IsJobOf now random arguments job
 
 -- `CommandLine`: the parser finds this fault in the arguments, and the fault is not a request for
 -- help or the version. `BadValue`: the parser finds no fault, but the arguments spell no job.
-abbrev pub IsWrongLine : ℕ → List (List ℕ) → WrongUsage → Type 0
-IsWrongLine now arguments (CommandLine error) =
+abbrev pub IsWrongLine : ℕ → List ℕ → List (List ℕ) → WrongUsage → Type 0
+IsWrongLine now random arguments (CommandLine error) =
     IsAmong (kind_of error) (faults arguments) × (IsText (kind_of error) → ⊥)
-IsWrongLine now arguments (BadValue place wanted) =
-    (faults arguments ≡ []) × ((job : Job) → IsJobOf now arguments job → ⊥)
+IsWrongLine now random arguments (BadValue place wanted) =
+    (faults arguments ≡ []) × ((job : Job) → IsJobOf now random arguments job → ⊥)
 
-abbrev pub IsRefusedLine : ℕ → List (List ℕ) → ToolFault → Type 0
-IsRefusedLine now arguments (Usage usage) = IsWrongLine now arguments usage
-IsRefusedLine now arguments Memory = ⊤
-IsRefusedLine now arguments why = ⊥
+abbrev pub IsRefusedLine : ℕ → List ℕ → List (List ℕ) → ToolFault → Type 0
+IsRefusedLine now random arguments (Usage usage) = IsWrongLine now random arguments usage
+IsRefusedLine now random arguments Memory = ⊤
+IsRefusedLine now random arguments why = ⊥

@@ -10,6 +10,11 @@ spaced word = codes " " ++ word
 abbrev pub words_of : List (List ℕ) → List ℕ
 words_of words = flat_map spaced words
 
--- the first four octets of SHA-256 over a text: the time in decimal digits, then the words
+-- what a Nonce is computed from, together with a time: the words of the command line, then random
+-- octets
+abbrev pub seed_of : List ℕ → List (List ℕ) → List ℕ
+seed_of random words = words_of words ++ random
+
+-- the first four octets of SHA-256 over the time in decimal digits and the seed
 abbrev pub nonce_of : ℕ → List ℕ → List ℕ
-nonce_of time words = take 4 (sha256 (decimal time ++ words))
+nonce_of time seed = take 4 (sha256 (decimal time ++ seed))

@@ -41,10 +41,10 @@ pub record AreRepositoryParameters (rows : List Row) (p : Parameters) : Type 0 w
   pub can_be_prefix : IsFlag (flag_at rows (codes "can-be-prefix")) p.can_be_prefix
   pub lifetime : MayHave (value_at rows (codes "lifetime")) IsNumber p.lifetime
 
--- the command that the options of the subcommand `repo` describe at the time `now`; `words` are the
--- words of the command line
-pub record IsRepositoryJob (now : ℕ) (words : List ℕ) (rows : List Row) (job : CommandJob)
+-- the command that the options of the subcommand `repo` describe at the time `now`; a Nonce is
+-- computed from the time and `seed` (`seed_of`)
+pub record IsRepositoryJob (now : ℕ) (seed : List ℕ) (rows : List Row) (job : CommandJob)
     : Type 0 where
   pub name : IsRepositoryName rows job.name
   pub parameters : AreRepositoryParameters rows job.parameters
-  pub stamp : IsShortStamp now words rows job.stamp
+  pub stamp : IsShortStamp now seed rows job.stamp

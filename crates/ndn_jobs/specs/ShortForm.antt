@@ -81,24 +81,24 @@ pub record AreShortParameters (rows : List Row) (p : Parameters) : Type 0 where
   pub lifetime : p.lifetime ≡ None
 
 -- the stamp of a short form: if no time is given, the time is `now`; if no Nonce is given, the
--- Nonce is computed from the time and the words of the command line
-pub record IsShortStamp (now : ℕ) (words : List ℕ) (rows : List Row) (stamp : Stamp)
+-- Nonce is computed from the time and the seed (`seed_of`)
+pub record IsShortStamp (now : ℕ) (seed : List ℕ) (rows : List Row) (stamp : Stamp)
     : Type 0 where
   pub time : HasOr now (value_at rows (codes "time")) IsNumber stamp.time
-  pub nonce : HasOr (nonce_of stamp.time words) (value_at rows (codes "nonce")) IsNonce stamp.nonce
+  pub nonce : HasOr (nonce_of stamp.time seed) (value_at rows (codes "nonce")) IsNonce stamp.nonce
   pub seq : MayHave (value_at rows (codes "seq")) IsNumber stamp.seq
   pub key : IsKeyChoice rows stamp.key
   pub ports : IsPorts (value_at rows (codes "send")) (value_at rows (codes "from")) stamp.ports
 
-pub record IsFormJob (action : Action) (now : ℕ) (words : List ℕ) (rows : List Row)
+pub record IsFormJob (action : Action) (now : ℕ) (seed : List ℕ) (rows : List Row)
     (job : CommandJob) : Type 0 where
   pub fitting : fits action rows ≡ true
   pub name : job.name ≡ node_name action
   pub parameters : AreShortParameters rows job.parameters
-  pub stamp : IsShortStamp now words rows job.stamp
+  pub stamp : IsShortStamp now seed rows job.stamp
 
 -- the command that the options of the subcommand with this name describe
 abbrev pub IsShortJob : ℕ → List ℕ → List ℕ → List Row → CommandJob → Type 0
-IsShortJob now words subcommand rows job =
+IsShortJob now seed subcommand rows job =
     (action : Action) × Has (value_at rows (codes "VERB")) (IsVerb subcommand) action
-    × IsFormJob action now words rows job
+    × IsFormJob action now seed rows job

@@ -3,12 +3,11 @@ ghost use Rattle.std.specs.Prelude.{◌≡◌, drop, map, option_map, MatchResul
 ghost use Rattle.clap.specs.Words.{kind_of, subcommand_rows_of};
 ghost use Rattle.ndn_jobs.specs.Value.{IsUsage, ReadsInMemory};
 ghost use Rattle.ndn_jobs.specs.Options.{rows_in};
-ghost use Rattle.ndn_jobs.specs.Nonce.{words_of};
 ghost use Rattle.ndn_jobs.specs.Command.{reading_of, IsJob, IsJobFor, IsListedJob, IsNamedJob, Asks, IsRefusedLine};
 
 use crate::fault::{ToolFault, Usage};
 use crate::job::{AskJob, CommandJob, DataJob, ExplainJob, Job, LinkJob, SendJob, TagJob, is_list};
-use crate::nonce::words_of;
+use crate::nonce::seed_of;
 use crate::options::required_octets;
 use clap::error::ErrorKind;
 use clap::{ArgMatches, Error};
@@ -17,18 +16,25 @@ use std::alloc::Global;
 use std::convert::AsStr;
 
 /// Reads the arguments of a command line as a job. The first argument is the program's name. `now`
-/// is the time in milliseconds since 1970.
+/// is the time in milliseconds since 1970. If the arguments give no Nonce, the Nonce is computed
+/// from the time, the arguments and the octets `random`. So different random octets make different
+/// Nonces likely, and the same time, arguments and random octets make the same Nonce.
 ///
 /// Returns `Usage` for a wrong command line. The only other error is `Memory`.
-pub fn parse_words<S: AsStr>(alloc: Global, now: u64, arguments: &[S]) -> Result<Job, ToolFault>
+pub fn parse_words<S: AsStr>(
+    alloc: Global,
+    now: u64,
+    random: &[u8],
+    arguments: &[S],
+) -> Result<Job, ToolFault>
     ensures { MatchResult result
-        (Asks now (map S.text arguments.now))
-        (IsRefusedLine now (map S.text arguments.now)) }
+        (Asks now random.now (map S.text arguments.now))
+        (IsRefusedLine now random.now (map S.text arguments.now)) }
 {
-    let words = words_of(alloc, after_program(arguments))?;
+    let seed = seed_of(alloc, random, after_program(arguments))?;
     let mut command = tool_command(alloc)?;
     match command.try_get_matches_from_mut(arguments) {
-        Ok(matches) => job_of(alloc, &matches, now, &words),
+        Ok(matches) => job_of(alloc, &matches, now, &seed),
         Err(error) => answer_to(error),
     }
 }
@@ -56,11 +62,11 @@ fn answer_to(error: Error) -> Result<Job, ToolFault>
 
 /// Returns the job of the subcommand in `matches`, or the fault `BadValue` if there is no
 /// subcommand.
-fn job_of(alloc: Global, matches: &ArgMatches<'_>, now: u64, words: &[u8]) -> Result<Job, ToolFault>
-    ensures { ReadsInMemory (IsJob now words.now (subcommand_rows_of matches.now)) result }
+fn job_of(alloc: Global, matches: &ArgMatches<'_>, now: u64, seed: &[u8]) -> Result<Job, ToolFault>
+    ensures { ReadsInMemory (IsJob now seed.now (subcommand_rows_of matches.now)) result }
 {
     match used(matches) {
-        Some((name, options)) => named_job(alloc, name, options, now, words),
+        Some((name, options)) => named_job(alloc, name, options, now, seed),
         None => Err(no_subcommand()),
     }
 }
@@ -80,12 +86,12 @@ fn named_job(
     name: &str,
     options: &ArgMatches<'_>,
     now: u64,
-    words: &[u8],
+    seed: &[u8],
 ) -> Result<Job, ToolFault>
-    ensures { ReadsInMemory (IsNamedJob now words.now name.now (rows_in options.now)) result }
+    ensures { ReadsInMemory (IsNamedJob now seed.now name.now (rows_in options.now)) result }
 {
     match Subcommand::named(name) {
-        Some(subcommand) => job_for(alloc, subcommand, name, options, now, words),
+        Some(subcommand) => job_for(alloc, subcommand, name, options, now, seed),
         None => Err(no_subcommand()),
     }
 }
@@ -97,27 +103,27 @@ fn job_for(
     name: &str,
     options: &ArgMatches<'_>,
     now: u64,
-    words: &[u8],
+    seed: &[u8],
 ) -> Result<Job, ToolFault>
     ensures { ReadsInMemory
-        (IsJobFor subcommand now words.now name.now (rows_in options.now)) result }
+        (IsJobFor subcommand now seed.now name.now (rows_in options.now)) result }
 {
     match subcommand {
         Subcommand::Interest => Ok(Job::Interest(LinkJob::read(alloc, options)?)),
         Subcommand::Data => Ok(Job::Data(DataJob::read(alloc, options)?)),
         Subcommand::Command => Ok(Job::Command(CommandJob::read(alloc, options)?)),
-        Subcommand::Route | Subcommand::Strategy => listed_job(alloc, name, options, now, words),
+        Subcommand::Route | Subcommand::Strategy => listed_job(alloc, name, options, now, seed),
         Subcommand::Cache => {
-            Ok(Job::Command(CommandJob::read_short(alloc, name, options, now, words)?))
+            Ok(Job::Command(CommandJob::read_short(alloc, name, options, now, seed)?))
         }
         Subcommand::Repository => {
-            Ok(Job::Command(CommandJob::read_repository(alloc, options, now, words)?))
+            Ok(Job::Command(CommandJob::read_repository(alloc, options, now, seed)?))
         }
         Subcommand::Tag => Ok(Job::Tag(TagJob::read(alloc, options)?)),
         Subcommand::Show => Ok(Job::Show(required_octets(alloc, options, "HEX")?)),
         Subcommand::Explain => Ok(Job::Explain(ExplainJob::read(alloc, options)?)),
         Subcommand::Send => Ok(Job::Send(SendJob::read(alloc, options)?)),
-        Subcommand::Peek => Ok(Job::Ask(AskJob::read_peek(alloc, options, now, words)?)),
+        Subcommand::Peek => Ok(Job::Ask(AskJob::read_peek(alloc, options, now, seed)?)),
     }
 }
 
@@ -128,14 +134,14 @@ fn listed_job(
     name: &str,
     options: &ArgMatches<'_>,
     now: u64,
-    words: &[u8],
+    seed: &[u8],
 ) -> Result<Job, ToolFault>
-    ensures { ReadsInMemory (IsListedJob now words.now name.now (rows_in options.now)) result }
+    ensures { ReadsInMemory (IsListedJob now seed.now name.now (rows_in options.now)) result }
 {
     if is_list(options) {
-        return Ok(Job::Ask(AskJob::read_list(alloc, name, options, now, words)?));
+        return Ok(Job::Ask(AskJob::read_list(alloc, name, options, now, seed)?));
     }
-    Ok(Job::Command(CommandJob::read_short(alloc, name, options, now, words)?))
+    Ok(Job::Command(CommandJob::read_short(alloc, name, options, now, seed)?))
 }
 
 fn no_subcommand() -> ToolFault

@@ -261,36 +261,35 @@ impl CommandJob {
 
     /// Returns the command of a short form. The short form consists of the subcommand with this
     /// name, and these options. If no time is given, the time is `now`. If no Nonce is given, the
-    /// Nonce is computed from the time and the words of the command line.
+    /// Nonce is computed from the time and `seed`.
     pub fn read_short(
         alloc: Global,
         subcommand: &str,
         options: &ArgMatches<'_>,
         now: u64,
-        words: &[u8],
+        seed: &[u8],
     ) -> Result<CommandJob, ToolFault>
         ensures { ReadsInMemory
-            (IsShortJob now words.now subcommand.now (rows_in options.now)) result }
+            (IsShortJob now seed.now subcommand.now (rows_in options.now)) result }
     {
         let action = action_in(subcommand, options)?;
-        CommandJob::read_form(alloc, action, options, now, words)
+        CommandJob::read_form(alloc, action, options, now, seed)
     }
 
     /// Returns the command that the options of the subcommand `repo` describe. If no time is given,
-    /// the time is `now`. If no Nonce is given, the Nonce is computed from the time and the words
-    /// of the command line.
+    /// the time is `now`. If no Nonce is given, the Nonce is computed from the time and `seed`.
     pub fn read_repository(
         alloc: Global,
         options: &ArgMatches<'_>,
         now: u64,
-        words: &[u8],
+        seed: &[u8],
     ) -> Result<CommandJob, ToolFault>
-        ensures { ReadsInMemory (IsRepositoryJob now words.now (rows_in options.now)) result }
+        ensures { ReadsInMemory (IsRepositoryJob now seed.now (rows_in options.now)) result }
     {
         Ok(CommandJob {
             name: repository_name(alloc, options)?,
             parameters: repository_parameters(alloc, options)?,
-            stamp: Stamp::read_short(alloc, options, now, words)?,
+            stamp: Stamp::read_short(alloc, options, now, seed)?,
         })
     }
 
@@ -300,15 +299,15 @@ impl CommandJob {
         action: Action,
         options: &ArgMatches<'_>,
         now: u64,
-        words: &[u8],
+        seed: &[u8],
     ) -> Result<CommandJob, ToolFault>
-        ensures { ReadsInMemory (IsFormJob action now words.now (rows_in options.now)) result }
+        ensures { ReadsInMemory (IsFormJob action now seed.now (rows_in options.now)) result }
     {
         check_fit(action, options)?;
         Ok(CommandJob {
             name: action_name(alloc, action)?,
             parameters: short_parameters(alloc, options)?,
-            stamp: Stamp::read_short(alloc, options, now, words)?,
+            stamp: Stamp::read_short(alloc, options, now, seed)?,
         })
     }
 }
@@ -393,15 +392,15 @@ impl Stamp {
         alloc: Global,
         options: &ArgMatches<'_>,
         now: u64,
-        words: &[u8],
+        seed: &[u8],
     ) -> Result<Stamp, ToolFault>
-        ensures { ReadsInMemory (IsShortStamp now words.now (rows_in options.now)) result }
+        ensures { ReadsInMemory (IsShortStamp now seed.now (rows_in options.now)) result }
     {
         let time = options::number(options, "time")?.unwrap_or(now);
         let given = options::nonce(options, "nonce")?;
         let ports = Ports::read(options, "send")?;
         Ok(Stamp {
-            nonce: nonce_or(alloc, given, time, words)?,
+            nonce: nonce_or(alloc, given, time, seed)?,
             time,
             seq: options::number(options, "seq")?,
             key: KeyChoice::read(alloc, options)?,
@@ -438,17 +437,17 @@ impl AskJob {
     ghost use Rattle.ndn_jobs.specs.Ask.{IsListJob, IsPeekJob};
 
     /// Returns the job of the verb `list` of the subcommand with this name: an Interest for the
-    /// first segment of the list. If no Nonce is given, the Nonce is computed from the time and the
-    /// words of the command line.
+    /// first segment of the list. If no Nonce is given, the Nonce is computed from the time and
+    /// `seed`.
     pub fn read_list(
         alloc: Global,
         subcommand: &str,
         options: &ArgMatches<'_>,
         now: u64,
-        words: &[u8],
+        seed: &[u8],
     ) -> Result<AskJob, ToolFault>
         ensures { ReadsInMemory
-            (IsListJob now words.now subcommand.now (rows_in options.now)) result }
+            (IsListJob now seed.now subcommand.now (rows_in options.now)) result }
     {
         if !is_alone(options) {
             return Err(refusal(
@@ -464,7 +463,7 @@ impl AskJob {
                 name: list_name(alloc, list)?,
                 can_be_prefix: true,
                 must_be_fresh: true,
-                nonce: nonce_or(alloc, given, now, words)?,
+                nonce: nonce_or(alloc, given, now, seed)?,
                 lifetime: None,
                 hop_limit: None,
                 parameters: None,
@@ -482,14 +481,14 @@ impl AskJob {
 
     /// Returns the job that the options of the subcommand `peek` describe: the Interest, what is
     /// printed of the answer, and the ports. If no Nonce is given, the Nonce is computed from the
-    /// time and the words of the command line.
+    /// time and `seed`.
     pub fn read_peek(
         alloc: Global,
         options: &ArgMatches<'_>,
         now: u64,
-        words: &[u8],
+        seed: &[u8],
     ) -> Result<AskJob, ToolFault>
-        ensures { ReadsInMemory (IsPeekJob now words.now (rows_in options.now)) result }
+        ensures { ReadsInMemory (IsPeekJob now seed.now (rows_in options.now)) result }
     {
         let given = options::nonce(options, "nonce")?;
         let ports = Ports::read(options, "to")?;
@@ -498,7 +497,7 @@ impl AskJob {
                 name: options::required_name(alloc, options, "URI")?,
                 can_be_prefix: options::flag(options, "can-be-prefix"),
                 must_be_fresh: options::flag(options, "must-be-fresh"),
-                nonce: nonce_or(alloc, given, now, words)?,
+                nonce: nonce_or(alloc, given, now, seed)?,
                 lifetime: options::number(options, "lifetime")?,
                 hop_limit: None,
                 parameters: None,

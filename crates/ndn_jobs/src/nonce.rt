@@ -8,8 +8,23 @@ use std::alloc::{AllocError, Global};
 use std::convert::AsStr;
 use std::io::Write;
 
+/// Returns what a Nonce is computed from, together with a time: the words of a command line, each
+/// with a space before it, and then the random octets.
+pub fn seed_of<S: AsStr>(
+    alloc: Global,
+    random: &[u8],
+    words: &[S],
+) -> Result<Vec<u8>, AllocError>
+    ensures { IfOk result (λ seed. seed.items
+        ≡ flat_map (λ word. spaced (S.text word)) words.now ++ random.now) }
+{
+    let mut seed = words_of(alloc, words)?;
+    seed.extend_from_slice(random)?;
+    Ok(seed)
+}
+
 /// Returns the words of a command line as one text, with a space before each word.
-pub fn words_of<S: AsStr>(alloc: Global, words: &[S]) -> Result<Vec<u8>, AllocError>
+fn words_of<S: AsStr>(alloc: Global, words: &[S]) -> Result<Vec<u8>, AllocError>
     ensures { IfOk result
         (λ text. text.items ≡ flat_map (λ word. spaced (S.text word)) words.now) }
 {
@@ -30,31 +45,30 @@ fn put_spaced(text: &mut Vec<u8>, word: &str) -> Result<(), AllocError>
 }
 
 /// Returns the given Nonce. If no Nonce is given, returns a Nonce that is computed from the time
-/// and the words of the command line.
+/// and the seed.
 pub fn nonce_or(
     alloc: Global,
     given: Option<[u8; 4]>,
     time: u64,
-    words: &[u8],
+    seed: &[u8],
 ) -> Result<[u8; 4], AllocError>
-    ensures { IfOk result (λ nonce. nonce ≡ unwrap_or given (nonce_of time words.now)) }
+    ensures { IfOk result (λ nonce. nonce ≡ unwrap_or given (nonce_of time seed.now)) }
 {
     match given {
         Some(nonce) => Ok(nonce),
-        None => nonce_of(alloc, time, words),
+        None => nonce_of(alloc, time, seed),
     }
 }
 
-/// Returns a Nonce that is computed from a time and the words of a command line: the first four
-/// octets of the SHA-256 digest of a text. The text is the time in decimal digits, and then the
-/// words.
-fn nonce_of(alloc: Global, time: u64, words: &[u8]) -> Result<[u8; 4], AllocError>
-    ensures { IfOk result (λ nonce. nonce ≡ nonce_of time words.now) }
+/// Returns a Nonce that is computed from a time and a seed: the first four octets of the SHA-256
+/// digest of the time in decimal digits and then the seed.
+fn nonce_of(alloc: Global, time: u64, seed: &[u8]) -> Result<[u8; 4], AllocError>
+    ensures { IfOk result (λ nonce. nonce ≡ nonce_of time seed.now) }
 {
     let time = time.to_string(alloc)?;
     let mut hasher = Sha256::new();
     hasher.update(time.as_bytes());
-    hasher.update(words);
+    hasher.update(seed);
     let digest = hasher.finalize();
     let mut nonce = [0; 4];
     nonce.copy_from_slice(&digest[..4]);

@@ -7,49 +7,49 @@ use Rattle.ndn_jobs.proofs.command.job_for.Goals as goal
 pub returns-in_err-read-in-Interest : goal.returns-in_err-read-in-Interest
 returns-in_err-read-in-Interest c =
     let p = err_from_is_err_and c.from_residual.result c.from_residual.ensures.1 in
-    rw (p.1, p.2, c.in-Interest.is) (refused_part _ _ (an_interest c.args.now c.args.words.now c.args.name.now _) c.in_err-read-in-Interest.field-0.0 c.in_err-read-in-Interest.ensures)
+    rw (p.1, p.2, c.in-Interest.is) (refused_part _ _ (an_interest c.args.now c.args.seed.now c.args.name.now _) c.in_err-read-in-Interest.field-0.0 c.in_err-read-in-Interest.ensures)
 
 pub returns-in_err-read-in-Data : goal.returns-in_err-read-in-Data
 returns-in_err-read-in-Data c =
     let p = err_from_is_err_and c.from_residual-in_err-read-in-Data.result c.from_residual-in_err-read-in-Data.ensures.1 in
-    rw (p.1, p.2, c.in-Data.is) (refused_part _ _ (a_data c.args.now c.args.words.now c.args.name.now _) c.in_err-read-in-Data.field-0.0 c.in_err-read-in-Data.ensures)
+    rw (p.1, p.2, c.in-Data.is) (refused_part _ _ (a_data c.args.now c.args.seed.now c.args.name.now _) c.in_err-read-in-Data.field-0.0 c.in_err-read-in-Data.ensures)
 
 pub returns-in_err-read-in-Command : goal.returns-in_err-read-in-Command
 returns-in_err-read-in-Command c =
     let p = err_from_is_err_and c.from_residual-in_err-read-in-Command.result c.from_residual-in_err-read-in-Command.ensures.1 in
-    rw (p.1, p.2, c.in-Command.is) (refused_part _ _ (a_command c.args.now c.args.words.now c.args.name.now _) c.in_err-read-in-Command.field-0.0 c.in_err-read-in-Command.ensures)
+    rw (p.1, p.2, c.in-Command.is) (refused_part _ _ (a_command c.args.now c.args.seed.now c.args.name.now _) c.in_err-read-in-Command.field-0.0 c.in_err-read-in-Command.ensures)
 
 pub returns-in_err-read_short-in-Cache : goal.returns-in_err-read_short-in-Cache
 returns-in_err-read_short-in-Cache c =
     let p = err_from_is_err_and c.from_residual-in_err-read_short-in-Cache.result c.from_residual-in_err-read_short-in-Cache.ensures.1 in
-    rw (p.1, p.2, c.in-Cache.is) (refused_part _ _ (a_cache c.args.now c.args.words.now c.args.name.now (rows_in c.args.options.now)) c.in_err-read_short-in-Cache.field-0.0 c.in_err-read_short-in-Cache.ensures)
+    rw (p.1, p.2, c.in-Cache.is) (refused_part _ _ (a_cache c.args.now c.args.seed.now c.args.name.now (rows_in c.args.options.now)) c.in_err-read_short-in-Cache.field-0.0 c.in_err-read_short-in-Cache.ensures)
 
 pub returns-in_err-read_repository-in-Repository : goal.returns-in_err-read_repository-in-Repository
 returns-in_err-read_repository-in-Repository c =
     let p = err_from_is_err_and c.from_residual-in_err-read_repository-in-Repository.result c.from_residual-in_err-read_repository-in-Repository.ensures.1 in
-    rw (p.1, p.2, c.in-Repository.is) (refused_part _ _ (a_repository c.args.now c.args.words.now c.args.name.now _) c.in_err-read_repository-in-Repository.field-0.0 c.in_err-read_repository-in-Repository.ensures)
+    rw (p.1, p.2, c.in-Repository.is) (refused_part _ _ (a_repository c.args.now c.args.seed.now c.args.name.now _) c.in_err-read_repository-in-Repository.field-0.0 c.in_err-read_repository-in-Repository.ensures)
 
 pub returns-in_err-read-in-Tag : goal.returns-in_err-read-in-Tag
 returns-in_err-read-in-Tag c =
     let p = err_from_is_err_and c.from_residual-in_err-read-in-Tag.result c.from_residual-in_err-read-in-Tag.ensures.1 in
-    rw (p.1, p.2, c.in-Tag.is) (refused_part _ _ (a_tag c.args.now c.args.words.now c.args.name.now _) c.in_err-read-in-Tag.field-0.0 c.in_err-read-in-Tag.ensures)
+    rw (p.1, p.2, c.in-Tag.is) (refused_part _ _ (a_tag c.args.now c.args.seed.now c.args.name.now _) c.in_err-read-in-Tag.field-0.0 c.in_err-read-in-Tag.ensures)
 
 pub returns-in_err-required_octets-in-Show : goal.returns-in_err-required_octets-in-Show
 returns-in_err-required_octets-in-Show c =
     let p = err_from_is_err_and c.from_residual-in_err-required_octets-in-Show.result c.from_residual-in_err-required_octets-in-Show.ensures.1 in
-    rw (p.1, p.2, c.in-Show.is) (refused_part _ _ (a_show c.args.now c.args.words.now c.args.name.now (rows_in c.args.options.now)) c.in_err-required_octets-in-Show.field-0.0 c.in_err-required_octets-in-Show.ensures)
+    rw (p.1, p.2, c.in-Show.is) (refused_part _ _ (a_show c.args.now c.args.seed.now c.args.name.now (rows_in c.args.options.now)) c.in_err-required_octets-in-Show.field-0.0 c.in_err-required_octets-in-Show.ensures)
 
 pub returns-in_err-read-in-Explain : goal.returns-in_err-read-in-Explain
 returns-in_err-read-in-Explain c =
     let p = err_from_is_err_and c.from_residual-in_err-read-in-Explain.result c.from_residual-in_err-read-in-Explain.ensures.1 in
-    rw (p.1, p.2, c.in-Explain.is) (refused_part _ _ (an_explanation c.args.now c.args.words.now c.args.name.now _) c.in_err-read-in-Explain.field-0.0 c.in_err-read-in-Explain.ensures)
+    rw (p.1, p.2, c.in-Explain.is) (refused_part _ _ (an_explanation c.args.now c.args.seed.now c.args.name.now _) c.in_err-read-in-Explain.field-0.0 c.in_err-read-in-Explain.ensures)
 
 pub returns-in_err-read-in-Send : goal.returns-in_err-read-in-Send
 returns-in_err-read-in-Send c =
     let p = err_from_is_err_and c.from_residual-in_err-read-in-Send.result c.from_residual-in_err-read-in-Send.ensures.1 in
-    rw (p.1, p.2, c.in-Send.is) (refused_part _ _ (a_send c.args.now c.args.words.now c.args.name.now _) c.in_err-read-in-Send.field-0.0 c.in_err-read-in-Send.ensures)
+    rw (p.1, p.2, c.in-Send.is) (refused_part _ _ (a_send c.args.now c.args.seed.now c.args.name.now _) c.in_err-read-in-Send.field-0.0 c.in_err-read-in-Send.ensures)
 
 pub returns-in_err-read_peek-in-Peek : goal.returns-in_err-read_peek-in-Peek
 returns-in_err-read_peek-in-Peek c =
     let p = err_from_is_err_and c.from_residual-in_err-read_peek-in-Peek.result c.from_residual-in_err-read_peek-in-Peek.ensures.1 in
-    rw (p.1, p.2, c.in-Peek.is) (refused_part _ _ (a_peek c.args.now c.args.words.now c.args.name.now _) c.in_err-read_peek-in-Peek.field-0.0 c.in_err-read_peek-in-Peek.ensures)
+    rw (p.1, p.2, c.in-Peek.is) (refused_part _ _ (a_peek c.args.now c.args.seed.now c.args.name.now _) c.in_err-read_peek-in-Peek.field-0.0 c.in_err-read_peek-in-Peek.ensures)

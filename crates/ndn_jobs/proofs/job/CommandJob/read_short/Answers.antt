@@ -9,4 +9,4 @@ returns-in_err-action c =
     rw (p.1, p.2) (wrong_in_memory _ _ (λ job h. (h.0, h.1)) c.in_err-action.field-0.0 c.in_err-action.ensures)
 
 pub returns : goal.returns
-returns c = short_read c.args.now c.args.words.now c.args.subcommand.now _ _ c.in_ok-action.action c.in_ok-action.ensures c.read_form.result c.read_form.ensures
+returns c = short_read c.args.now c.args.seed.now c.args.subcommand.now _ _ c.in_ok-action.action c.in_ok-action.ensures c.read_form.result c.read_form.ensures
