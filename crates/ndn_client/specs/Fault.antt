@@ -5,6 +5,10 @@ use Rattle.hmac_keys.specs.declared.fault.KeyFault.{KeyFault}
 use Rattle.hmac_keys.specs.declared.fault.KeyFault.TheVariants.{BadLine, TwiceNamed, TooMany, Memory as KeyMemory}
 use Rattle.file_faults.specs.Advice.{cause_of, key_text}
 use Rattle.ndn_jobs.specs.Fault.{tool_status, tool_text}
+use Rattle.ndn_requests.specs.declared.fault.Silence.{Silence}
+use Rattle.ndn_requests.specs.declared.fault.Silence.TheVariants.{Closed, Far, Late, Changed}
+use Rattle.ndn_requests.specs.declared.fault.Failure.{Failure}
+use Rattle.ndn_requests.specs.declared.fault.Failure.TheVariants.{Refused, NoStatus, Nack, Silent}
 use Rattle.ndn_requests.specs.Fault.{silence_text, failure_text}
 use Rattle.ndn_client.specs.declared.fault.Fault.{Fault}
 use Rattle.ndn_client.specs.declared.fault.Fault.TheVariants as fault
@@ -15,10 +19,25 @@ key_status (TwiceNamed line) = 1
 key_status TooMany = 1
 key_status KeyMemory = 3
 
--- The exit status. It is 1 if a key is named without a key file, if the key file is too large or
--- its content has a fault, or if a request was not done. It is 2 if an argument is not UTF-8. It is
--- 3 if reading, writing or sending failed, if a port could not be bound, if memory ran out, or if
--- no answer came to the packet of `send`. The fault of a job has its own exit status.
+abbrev pub silence_status : Silence → ℕ
+silence_status Closed = 6
+silence_status Far = 5
+silence_status Late = 5
+silence_status Changed = 5
+
+-- the exit status of a request that was not done: 1 if the answer says so, 4 for a Nack, 5 if no
+-- answer came in time, and 6 if no program listens on the port
+abbrev pub failure_status : Failure → ℕ
+failure_status Refused = 1
+failure_status NoStatus = 1
+failure_status Nack = 4
+failure_status (Silent why) = silence_status why
+
+-- The exit status. It is 1 if a key is named without a key file, or if the key file is too large or
+-- its content has a fault. It is 2 if an argument is not UTF-8. It is 3 if reading, writing or
+-- sending failed, if a port could not be bound, if memory ran out, or if no answer came to the
+-- packet of `send`. A request that was not done, and the fault of a job, have their own exit
+-- statuses.
 abbrev pub status_of : Fault → ℕ
 status_of (fault.Tool why) = tool_status why
 status_of fault.NoKeyFile = 1
@@ -32,7 +51,7 @@ status_of fault.Input = 3
 status_of fault.Send = 3
 status_of (fault.Unbound port) = 3
 status_of (fault.Silent why) = 3
-status_of (fault.NotDone why) = 1
+status_of (fault.NotDone why) = failure_status why
 
 -- the message for standard error, which ends with an LF, or None if the command-line parser makes
 -- the message

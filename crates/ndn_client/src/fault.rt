@@ -1,4 +1,7 @@
 //! Why the program fails: the message and the exit status.
+ghost use Rattle.std.specs.Prelude.{◌≡◌};
+ghost use Rattle.ndn_client.specs.Fault.{failure_status};
+
 use file_faults::{KeyMessage, cause_of};
 use hmac_keys::KeyFault;
 use ndn_jobs::ToolFault;
@@ -56,9 +59,11 @@ impl Fault {
 
     /// Returns the exit status. For `Tool`, the exit status is that of the job's fault. For any
     /// other fault, the exit status is 1 if a key is named without a key file, if the key file is
-    /// too large or its content has a fault, or if a request was not done. The exit status is 2 if
-    /// an argument is not UTF-8. The exit status is 3 if reading, writing or sending failed, if a
-    /// port could not be bound, if memory ran out, or if no answer came to the packet of `send`.
+    /// too large or its content has a fault, or if the answer says that a request was not done. The
+    /// exit status is 2 if an argument is not UTF-8. The exit status is 3 if reading, writing or
+    /// sending failed, if a port could not be bound, if memory ran out, or if no answer came to the
+    /// packet of `send`. For any other request the exit status is 4 if a Nack came back, 5 if no
+    /// answer came in time, and 6 if no program listens on the destination port.
     pub fn exit_status(&self) -> u8
         ensures { result ≡ status_of self.now }
     {
@@ -67,8 +72,8 @@ impl Fault {
             Fault::NotText => 2,
             Fault::Keys(KeyFault::BadLine(_) | KeyFault::TwiceNamed(_) | KeyFault::TooMany)
             | Fault::LargeKeys
-            | Fault::NoKeyFile
-            | Fault::NotDone(_) => 1,
+            | Fault::NoKeyFile => 1,
+            Fault::NotDone(failure) => failure_status(*failure),
             Fault::Keys(KeyFault::Memory)
             | Fault::Unread { .. }
             | Fault::Clock
@@ -78,6 +83,18 @@ impl Fault {
             | Fault::Unbound { .. }
             | Fault::Silent(_) => 3,
         }
+    }
+}
+
+/// Returns the exit status of a request that was not done.
+fn failure_status(failure: Failure) -> u8
+    ensures { result ≡ failure_status failure }
+{
+    match failure {
+        Failure::Refused | Failure::NoStatus => 1,
+        Failure::Nack => 4,
+        Failure::Silent(Silence::Far | Silence::Late | Silence::Changed) => 5,
+        Failure::Silent(Silence::Closed) => 6,
     }
 }
 

@@ -141,8 +141,8 @@ fn sent_packet(alloc: Global, job: &SendJob, input: &str) -> Result<Vec<u8>, Too
 }
 
 /// Returns the fault of a request without an answer. `is_closed` is true if no program listens on
-/// the destination port. The exit status is 3 for the packet of `send`, and 1 for any other
-/// request.
+/// the destination port. The exit status is 3 for the packet of `send`. For any other request it is
+/// 6 if no program listens on the destination port, and 5 otherwise.
 pub fn fault_of_silence(exchange: &Exchange, is_closed: bool) -> Fault
     ensures { result ≡ fault_of_silence exchange.now is_closed }
 {

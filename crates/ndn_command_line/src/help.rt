@@ -27,8 +27,11 @@ Exit status:
 
 If route, strategy, cache, repo or peek sends a packet, the exit status is 0 only if one of these
 comes back: for a command, a reply with the status 200; for repo insert, also a reply with the
-status 100; for a list, all its segments; for peek, the Data. If a Nack, another reply or no answer
-comes back, the exit status is 1.";
+status 100; for a list, all its segments; for peek, the Data. Otherwise the exit status is
+  1  if another reply came back
+  4  if a Nack came back
+  5  if no answer came in time
+  6  if no program listens on the port";
 
 pub const INTEREST: &str =
     "With --key, the Interest is signed with HmacWithSha256. A signed Interest always has
@@ -184,7 +187,8 @@ pub const PEEK: &str =
     "With --to, the Interest is sent. Then the Data or the Nack that comes back is printed in the
 format of explain. With --to and --raw, only the Content of the Data is printed. Without --to, the
 Interest is only printed, in hexadecimal. The option --from requires --to. If --nonce is absent, the
-Nonce is random. If a Nack comes, or if no answer comes within 4 seconds, the exit status is 1.
+Nonce is random. The exit status is 4 if a Nack comes back, 5 if no answer comes within 4 seconds,
+and 6 if no program listens on the port.
 
 Example: the Content of /A, from the node at port 6363.
   $ ndn_tool peek /A --to 6363 --raw";
