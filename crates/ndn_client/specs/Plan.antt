@@ -1,5 +1,5 @@
 -- What the program must do for a job.
-use Rattle.std.specs.Prelude.{◌≡◌, ℕ, List, [], Option, None, Some, Bool, true, false, is_none, if◌then◌else◌, Vec}
+use Rattle.std.specs.Prelude.{◌≡◌, ℕ, List, [], Option, None, Some, Bool, true, false, is_none, unwrap_or, if◌then◌else◌, Vec}
 use Rattle.std.specs.Option.{option_map}
 use Rattle.std.specs.Global.{Vec as Octets}
 use Rattle.hmac_keys.specs.KeyFile.{NamedKey}
@@ -19,6 +19,7 @@ use Rattle.ndn_jobs.specs.declared.fault.ToolFault.{ToolFault}
 use Rattle.ndn_jobs.specs.declared.fault.ToolFault.TheVariants as tool
 use Rattle.ndn_client.specs.declared.fault.Fault.{Fault}
 use Rattle.ndn_client.specs.declared.fault.Fault.TheVariants as fault
+use Rattle.ndn_client.specs.declared.plan.TheConstants.{ANSWER_MILLISECONDS}
 use Rattle.ndn_client.specs.declared.plan.InputForm.{InputForm}
 use Rattle.ndn_client.specs.declared.plan.InputForm.TheVariants.{Nothing, Packet, Lines}
 use Rattle.ndn_client.specs.declared.plan.Plan.{Plan}
@@ -45,6 +46,18 @@ abbrev pub view_of : Job → View
 view_of (job.Ask asked) = asked.view
 view_of (job.Send asked) = Hexadecimal
 view_of asked = AsLines
+
+-- how long to wait for an answer, in milliseconds: the timeout if it is given, otherwise the
+-- lifetime of the Interest if it is given, otherwise 4,000
+abbrev pub wait_for : Option ℕ → Option ℕ → ℕ
+wait_for timeout lifetime = unwrap_or timeout (unwrap_or lifetime ANSWER_MILLISECONDS)
+
+-- how long to wait for an answer to the job's packet, in milliseconds
+abbrev pub wait_of : Job → ℕ
+wait_of (job.Command asked) = wait_for asked.stamp.timeout None
+wait_of (job.Ask asked) = wait_for asked.timeout asked.interest.lifetime
+wait_of (job.Send asked) = wait_for asked.timeout None
+wait_of asked = wait_for None None
 
 -- ---- what is printed
 
@@ -85,6 +98,7 @@ pub record IsExchange (asked : Job) (book : List NamedKey) (input : List ℕ) (x
     pub to : (ports_of asked).to ≡ Some x.to
     pub from : (ports_of asked).from ≡ x.from
     pub view : x.view ≡ view_of asked
+    pub wait : x.wait ≡ wait_of asked
     pub contents : x.contents.items ≡ []
 
 abbrev pub IsPlan : Job → List NamedKey → List ℕ → Plan → Type 0

@@ -2,7 +2,7 @@
 
 ghost use Rattle.std.specs.Prelude.{◌≡◌, MatchResult};
 ghost use Rattle.ndn_client.specs.Answer.{IsRefusal};
-ghost use Rattle.ndn_client.specs.Plan.{IsPlan, IsNoPlan, IsRequest, IsSent, IsNotSent, IsPrinted, fault_of_silence, input_form, ports_of, view_of};
+ghost use Rattle.ndn_client.specs.Plan.{IsPlan, IsNoPlan, IsRequest, IsSent, IsNotSent, IsPrinted, fault_of_silence, input_form, ports_of, view_of, wait_for, wait_of};
 
 use crate::answer::{command_packet, interest_packet, keys_given, text_of};
 use crate::fault::Fault;
@@ -12,6 +12,9 @@ use ndn_explain::put_input;
 use ndn_jobs::{Job, Ports, SendJob, ToolFault};
 use ndn_requests::{Exchange, Failure, View};
 use std::alloc::Global;
+
+/// How long to wait for an answer if the command line does not say so, in milliseconds.
+pub const ANSWER_MILLISECONDS: u64 = 4000;
 
 /// What the program must do.
 #[derive(Drop)]
@@ -63,6 +66,7 @@ pub fn plan_of(alloc: Global, job: &Job, book: &KeyBook, input: &str) -> Result<
                 to,
                 from,
                 view: view_of(job),
+                wait: wait_of(job),
                 contents: Vec::new(alloc),
             }))
         }
@@ -96,6 +100,29 @@ fn view_of(job: &Job) -> View
         Job::Ask(job) => job.view,
         Job::Send(_) => View::Hexadecimal,
         _ => View::Lines,
+    }
+}
+
+/// Returns how long to wait for an answer to the job's packet, in milliseconds.
+fn wait_of(job: &Job) -> u64
+    ensures { result ≡ wait_of job.now }
+{
+    match job {
+        Job::Command(job) => wait_for(job.stamp.timeout, None),
+        Job::Ask(job) => wait_for(job.timeout, job.interest.lifetime),
+        Job::Send(job) => wait_for(job.timeout, None),
+        _ => wait_for(None, None),
+    }
+}
+
+/// Returns how long to wait for an answer, in milliseconds: the timeout if it is given, otherwise
+/// the lifetime of the Interest if it is given, otherwise 4,000.
+fn wait_for(timeout: Option<u32>, lifetime: Option<u64>) -> u64
+    ensures { result ≡ wait_for timeout lifetime }
+{
+    match timeout {
+        Some(timeout) => u64::from(timeout),
+        None => lifetime.unwrap_or(ANSWER_MILLISECONDS),
     }
 }
 

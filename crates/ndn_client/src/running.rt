@@ -8,7 +8,7 @@ use crate::key_file::{read_key_file, unread_keys};
 use crate::plan::{InputForm, Plan, fault_of_silence, input_form, plan_of};
 use hmac_keys::KeyBook;
 use ndn_jobs::{Job, ToolFault, parse_words};
-use ndn_requests::{Exchange, Outcome, Progress};
+use ndn_requests::{Exchange, Failure, Outcome, Progress, Silence};
 use std::env::Env;
 use std::fs::File;
 use std::io::{BufRead, BufReader, Input, Read, Write};
@@ -25,9 +25,6 @@ const RANDOM_SOURCE: &str = "/dev/urandom";
 
 /// The number of random octets that are read for a Nonce.
 const RANDOM_OCTETS: usize = 16;
-
-/// The time to wait for an answer, in seconds.
-const ANSWER_SECONDS: u64 = 4;
 
 /// Why no datagram was received.
 #[derive(Clone, Copy)]
@@ -50,22 +47,53 @@ where
     R: Clock + Env + AllocGlobal + Eprint + Files + Input + Net + Print,
 {
     let job = asked_job(rt)?;
-    match run_job(rt, &job) {
-        Err(Fault::Tool(ToolFault::NoKey)) if job.key_file().is_none() => Err(Fault::NoKeyFile),
+    let names_no_keys = job.key_file().is_none();
+    match run_job(rt, job) {
+        Err(Fault::Tool(ToolFault::NoKey)) if names_no_keys => Err(Fault::NoKeyFile),
         done => done,
     }
 }
 
-fn run_job<R>(rt: &R, job: &Job) -> Result<(), Fault>
+fn run_job<R>(rt: &R, job: Job) -> Result<(), Fault>
 where
     R: Clock + AllocGlobal + Eprint + Files + Input + Net + Print,
 {
-    let book = book_of(rt, job)?;
-    match input_form(job) {
-        InputForm::Nothing => run_plan(rt, job, &book, ""),
-        InputForm::Packet => run_plan(rt, job, &book, &read_packet_input(rt.alloc(), rt.reader())?),
-        InputForm::Lines => run_lines(rt, job, &book, &mut input_of(rt)?),
+    let book = book_of(rt, &job)?;
+    match input_form(&job) {
+        InputForm::Nothing => run_attempts(rt, job, &book),
+        InputForm::Packet => {
+            let input = read_packet_input(rt.alloc(), rt.reader())?;
+            run_plan(rt, &job, &book, &input)
+        }
+        InputForm::Lines => run_lines(rt, &job, &book, &mut input_of(rt)?),
     }
+}
+
+/// Runs a job that reads no input. If no answer comes in time, and the job has retries, sends its
+/// Interest again with a new Nonce.
+fn run_attempts<R>(rt: &R, job: Job, book: &KeyBook) -> Result<(), Fault>
+where
+    R: Clock + AllocGlobal + Eprint + Net + Print,
+{
+    let mut job = job;
+    for _ in 0..job.retries() {
+        let done = run_plan(rt, &job, book, "");
+        if !is_late(&done) {
+            return done;
+        }
+        job = job.retried();
+    }
+    run_plan(rt, &job, book, "")
+}
+
+/// Returns whether no answer came in time, although no error showed that no program listens.
+fn is_late(done: &Result<(), Fault>) -> bool {
+    matches!(
+        done,
+        Err(Fault::NotDone(Failure::Silent(
+            Silence::Far | Silence::Late
+        )))
+    )
 }
 
 /// Returns a buffered reader of standard input.
@@ -112,7 +140,8 @@ fn run_exchange<R: Clock + AllocGlobal + Eprint + Net + Print>(
 }
 
 /// Runs the exchange on this socket: sends the requests of the exchange one after another, and
-/// prints the answer. The answer to each request must arrive within 4 seconds.
+/// prints the answer. The answer to each request must arrive within the time `wait` of the
+/// exchange.
 ///
 /// # Errors
 ///
@@ -179,7 +208,7 @@ fn next_answer<R: Clock + AllocGlobal + Eprint + Print>(
 ) -> Result<Option<Outcome>, Fault> {
     let start = Instant::now(rt).map_err(|_| Fault::Clock)?;
     for _ in 0..u64::MAX {
-        let len = match receive(rt, socket, start, buffer) {
+        let len = match receive(rt, socket, start, exchange.wait, buffer) {
             Ok(len) => len,
             Err(Missed::Clock) => return Err(Fault::Clock),
             Err(Missed::Closed) => return Err(fault_of_silence(exchange, true)),
@@ -231,17 +260,18 @@ fn send(socket: &UdpSocket, packet: &[u8]) -> Result<(), Fault> {
 }
 
 /// Receives one datagram and returns its length in octets. Fails if no datagram arrives within
-/// `ANSWER_SECONDS` seconds after `start`, if receiving fails, or if the clock cannot be read.
+/// `wait` milliseconds after `start`, if receiving fails, or if the clock cannot be read.
 fn receive<R: Clock>(
     rt: &R,
     socket: &UdpSocket,
     start: Instant,
+    wait: u64,
     buffer: &mut [u8],
 ) -> Result<usize, Missed>
     ensures { IfOk result (λ len. len ≤ length buffer.new) }
 {
     let waited = start.elapsed(rt).map_err(|_| Missed::Clock)?;
-    let left = Duration::from_secs(ANSWER_SECONDS).saturating_sub(waited);
+    let left = Duration::from_millis(wait).saturating_sub(waited);
     // `set_read_timeout` refuses a timeout of zero. So if no time remains, the answer is late.
     socket
         .set_read_timeout(Some(left))

@@ -101,7 +101,7 @@ command_app = a_subcommand (codes "command") (
     ∷ an_option (codes "key")
     ∷ [])
 
--- the command with the options of a stamp: time, Nonce, sequence number, key and ports
+-- the command with the options of a stamp: time, Nonce, sequence number, key, ports and timeout
 abbrev pub stamped : App → App
 stamped app = with_rules app (
     an_option (codes "time")
@@ -111,6 +111,7 @@ stamped app = with_rules app (
     ∷ an_option (codes "key")
     ∷ an_option (codes "send")
     ∷ an_option (codes "from")
+    ∷ an_option (codes "timeout")
     ∷ [])
 
 unfoldable pub route_app : App
@@ -168,6 +169,7 @@ send_app = a_subcommand (codes "send") (
     a_positional (codes "HEX")
     ∷ a_required_option (codes "to")
     ∷ an_option (codes "from")
+    ∷ an_option (codes "timeout")
     ∷ [])
 
 unfoldable pub peek_app : App
@@ -180,6 +182,8 @@ peek_app = a_subcommand (codes "peek") (
     ∷ a_flag (codes "raw")
     ∷ an_option (codes "to")
     ∷ an_option (codes "from")
+    ∷ an_option (codes "timeout")
+    ∷ an_option (codes "retries")
     ∷ [])
 
 -- ---- the subcommands by name

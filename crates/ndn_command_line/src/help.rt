@@ -78,7 +78,7 @@ hexadecimal. The option --from requires --send.
 
 The signature of a command is HmacWithSha256 with --key, and DigestSha256 without --key. If --time
 is absent, the signature time is the time of the clock. If --nonce is absent, the Nonce is random.
-For the verb `list`, only the options --nonce, --send and --from are allowed.
+For the verb `list`, only the options --nonce, --send, --from and --timeout are allowed.
 
 Example: send a command from port 7001 to the node at port 6363. The command adds a next hop for /A
 through face 2. Then get the list of routes.
@@ -105,7 +105,7 @@ hexadecimal. The option --from requires --send.
 
 The signature of a command is HmacWithSha256 with --key, and DigestSha256 without --key. If --time
 is absent, the signature time is the time of the clock. If --nonce is absent, the Nonce is random.
-For the verb `list`, only the options --nonce, --send and --from are allowed.
+For the verb `list`, only the options --nonce, --send, --from and --timeout are allowed.
 
 Example: print a command that sets the strategy of /A to multicast.
   $ ndn_tool strategy set /A multicast --keys ops.keys --key /ops/KEY/1";
@@ -178,7 +178,7 @@ Example: a Data named /A, with the name of a key, and with an empty signature va
 pub const SEND: &str =
     "Sends the octets as one datagram to a port of 127.0.0.1. Then prints the first datagram that
 comes back, in hexadecimal, whatever it contains. If HEX is -, the octets are read from standard
-input, in hexadecimal. If no datagram comes back within 4 seconds, the exit status is 3.
+input, in hexadecimal. If no datagram comes back in time, the exit status is 3.
 
 Example: write an Interest, send it to the node at port 6363, and explain the answer.
   $ ndn_tool interest /A --nonce 01020304 | ndn_tool send - --to 6363 | ndn_tool explain -";
@@ -187,8 +187,12 @@ pub const PEEK: &str =
     "With --to, the Interest is sent. Then the Data or the Nack that comes back is printed in the
 format of explain. With --to and --raw, only the Content of the Data is printed. Without --to, the
 Interest is only printed, in hexadecimal. The option --from requires --to. If --nonce is absent, the
-Nonce is random. The exit status is 4 if a Nack comes back, 5 if no answer comes within 4 seconds,
-and 6 if no program listens on the port.
+Nonce is random. The exit status is 4 if a Nack comes back, 5 if no answer comes in time, and 6 if
+no program listens on the port.
+
+The client waits for an answer as long as --timeout says. Without --timeout it waits for the time of
+--lifetime, and without both for 4,000 milliseconds. With --retries, after each silence the Interest
+is sent again with a new Nonce, at most N times.
 
 Example: the Content of /A, from the node at port 6363.
   $ ndn_tool peek /A --to 6363 --raw";
@@ -231,3 +235,10 @@ pub const PORT: &str = "Sends the request to this port of 127.0.0.1, and prints 
 pub const TO: &str = "The port of 127.0.0.1 to which the packet is sent";
 
 pub const FROM: &str = "The port of 127.0.0.1 from which the packet is sent; a free port if absent";
+
+pub const TIMEOUT: &str = "How long to wait for an answer, in milliseconds; 4000 if absent";
+
+pub const PEEK_TIMEOUT: &str =
+    "How long to wait for an answer, in milliseconds; the lifetime if absent";
+
+pub const RETRIES: &str = "How often the Interest is sent again if no answer comes; 0 if absent";

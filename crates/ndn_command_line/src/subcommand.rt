@@ -273,6 +273,7 @@ fn send_command<'a>(alloc: Global) -> Result<Command<'a>, AllocError>
         Argument::Positional("HEX", "The octets, or - to read them from standard input"),
         Argument::Required("to", "PORT", help::TO),
         Argument::Optional("from", "PORT", help::FROM),
+        Argument::Optional("timeout", "MILLISECONDS", help::TIMEOUT),
     ];
     let about = "Sends octets to a node and prints the answer";
     described(alloc, "send", about, help::SEND, &arguments)
@@ -290,12 +291,14 @@ fn peek_command<'a>(alloc: Global) -> Result<Command<'a>, AllocError>
         Argument::Flag("raw", "Prints only the Content, unchanged"),
         Argument::Optional("to", "PORT", help::TO),
         Argument::Optional("from", "PORT", help::FROM),
+        Argument::Optional("timeout", "MILLISECONDS", help::PEEK_TIMEOUT),
+        Argument::Optional("retries", "N", help::RETRIES),
     ];
     let about = "Writes an Interest; with --to, sends it and explains the answer";
     described(alloc, "peek", about, help::PEEK, &arguments)
 }
 
-/// Adds the options of a stamp to a command: time, Nonce, sequence number, key and ports.
+/// Adds the options of a stamp to a command: time, Nonce, sequence number, key, ports and timeout.
 fn with_stamp<'a>(alloc: Global, command: Command<'a>) -> Result<Command<'a>, AllocError>
     ensures { (app : App) → HasApp app command.entry → IfOk result (HasApp (stamped app)) }
 {
@@ -307,6 +310,7 @@ fn with_stamp<'a>(alloc: Global, command: Command<'a>) -> Result<Command<'a>, Al
         Argument::Optional("key", "URI", help::KEY),
         Argument::Optional("send", "PORT", help::PORT),
         Argument::Optional("from", "PORT", help::FROM),
+        Argument::Optional("timeout", "MILLISECONDS", help::TIMEOUT),
     ];
     with_arguments(alloc, command, &arguments)
 }

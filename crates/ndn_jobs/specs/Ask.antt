@@ -10,7 +10,7 @@ use Rattle.ndn_requests.specs.declared.exchange.View.TheVariants.{Lines, Content
 use Rattle.ndn_requests.specs.Lists.{list_name}
 use Rattle.ndn_jobs.specs.declared.job.InterestJob.{InterestJob}
 use Rattle.ndn_jobs.specs.declared.job.AskJob.{AskJob}
-use Rattle.ndn_jobs.specs.Value.{IsNumber, IsNonce}
+use Rattle.ndn_jobs.specs.Value.{IsNumber, IsNonce, IsPeriod}
 use Rattle.ndn_jobs.specs.Options.{value_at, flag_at, Has, MayHave, HasOr, IsFlag, IsPorts}
 use Rattle.ndn_jobs.specs.Nonce.{nonce_of}
 
@@ -39,8 +39,8 @@ is_list rows = is_word (codes "list") (value_at rows (codes "VERB"))
 abbrev pub lacks : List Row → List ℕ → Bool
 lacks rows id = is_none (value_at rows id)
 
--- whether the arguments suit the verb `list`; this verb allows the options for the Nonce and for
--- the ports, and no other arguments
+-- whether the arguments suit the verb `list`; this verb allows the options for the Nonce, the ports
+-- and the timeout, and no other arguments
 abbrev pub is_alone : List Row → Bool
 is_alone rows =
     lacks rows (codes "PREFIX") && lacks rows (codes "face") && lacks rows (codes "cost")
@@ -64,6 +64,8 @@ pub record IsListJob (now : ℕ) (seed subcommand : List ℕ) (rows : List Row) 
   pub lifetime : job.interest.lifetime ≡ None
   pub plain : IsPlainInterest now seed rows job.interest
   pub ports : IsPorts (value_at rows (codes "send")) (value_at rows (codes "from")) job.ports
+  pub timeout : MayHave (value_at rows (codes "timeout")) IsPeriod job.timeout
+  pub retries : job.retries ≡ 0
 
 -- ---- one Data
 
@@ -80,3 +82,5 @@ pub record IsPeekJob (now : ℕ) (seed : List ℕ) (rows : List Row) (job : AskJ
   pub lifetime : MayHave (value_at rows (codes "lifetime")) IsNumber job.interest.lifetime
   pub plain : IsPlainInterest now seed rows job.interest
   pub ports : IsPorts (value_at rows (codes "to")) (value_at rows (codes "from")) job.ports
+  pub timeout : MayHave (value_at rows (codes "timeout")) IsPeriod job.timeout
+  pub retries : HasOr 0 (value_at rows (codes "retries")) IsNumber job.retries

@@ -18,3 +18,8 @@ seed_of random words = words_of words ++ random
 -- the first four octets of SHA-256 over the time in decimal digits and the seed
 abbrev pub nonce_of : ℕ → List ℕ → List ℕ
 nonce_of time seed = take 4 (sha256 (decimal time ++ seed))
+
+-- the Nonce with which an Interest is sent again: the first four octets of SHA-256 over the Nonce
+-- before it
+abbrev pub nonce_after : List ℕ → List ℕ
+nonce_after nonce = take 4 (sha256 nonce)

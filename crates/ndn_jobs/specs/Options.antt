@@ -17,7 +17,7 @@ use Rattle.ndn_jobs.specs.declared.job.CommandJob.{CommandJob}
 use Rattle.ndn_jobs.specs.declared.job.TagJob.{TagJob}
 use Rattle.ndn_jobs.specs.declared.job.ExplainJob.{ExplainJob}
 use Rattle.ndn_jobs.specs.declared.job.SendJob.{SendJob}
-use Rattle.ndn_jobs.specs.Value.{IsNumber, IsHops, IsPort, AreOctets, IsPacket, IsNonce, IsTokenText}
+use Rattle.ndn_jobs.specs.Value.{IsNumber, IsHops, IsPeriod, IsPort, AreOctets, IsPacket, IsNonce, IsTokenText}
 
 -- the parsed values of all options
 abbrev pub rows_in : ArgMatches → List Row
@@ -122,6 +122,7 @@ pub record IsStamp (rows : List Row) (stamp : Stamp) : Type 0 where
   pub seq : MayHave (value_at rows (codes "seq")) IsNumber stamp.seq
   pub key : IsKeyChoice rows stamp.key
   pub ports : AreNoPorts stamp.ports
+  pub timeout : stamp.timeout ≡ None
 
 pub record IsCommandJob (rows : List Row) (job : CommandJob) : Type 0 where
   pub name : Has (value_at rows (codes "URI")) ReadsAs job.name
@@ -141,6 +142,7 @@ pub record IsSendJob (rows : List Row) (job : SendJob) : Type 0 where
   pub packet : Has (value_at rows (codes "HEX")) IsPacket job.packet
   pub to : Has (value_at rows (codes "to")) IsPort job.to
   pub from : MayHave (value_at rows (codes "from")) IsPort job.from
+  pub timeout : MayHave (value_at rows (codes "timeout")) IsPeriod job.timeout
 
 -- the octets that the argument of `show` spells
 abbrev pub IsShowJob : {Z : Type 0} → List Row → Vec ℕ Z → Type 0

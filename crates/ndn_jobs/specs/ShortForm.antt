@@ -11,7 +11,7 @@ use Rattle.ndn_requests.specs.declared.parameters.Parameters.{Parameters}
 use Rattle.ndn_requests.specs.Commands.{node_name}
 use Rattle.ndn_jobs.specs.declared.job.Stamp.{Stamp}
 use Rattle.ndn_jobs.specs.declared.job.CommandJob.{CommandJob}
-use Rattle.ndn_jobs.specs.Value.{IsNumber, IsNonce}
+use Rattle.ndn_jobs.specs.Value.{IsNumber, IsNonce, IsPeriod}
 use Rattle.ndn_jobs.specs.Options.{value_at, Has, MayHave, HasOr, IsKeyChoice, IsPorts, SpellsStrategy}
 use Rattle.ndn_jobs.specs.Nonce.{nonce_of}
 
@@ -89,6 +89,7 @@ pub record IsShortStamp (now : ℕ) (seed : List ℕ) (rows : List Row) (stamp :
   pub seq : MayHave (value_at rows (codes "seq")) IsNumber stamp.seq
   pub key : IsKeyChoice rows stamp.key
   pub ports : IsPorts (value_at rows (codes "send")) (value_at rows (codes "from")) stamp.ports
+  pub timeout : MayHave (value_at rows (codes "timeout")) IsPeriod stamp.timeout
 
 pub record IsFormJob (action : Action) (now : ℕ) (seed : List ℕ) (rows : List Row)
     (job : CommandJob) : Type 0 where

@@ -15,6 +15,11 @@ IsNumber text n = IsNumeral 10 text × (digits_value 10 text ≡ n) × (n < 2 ^ 
 abbrev pub IsHops : List ℕ → ℕ → Type 0
 IsHops text n = IsNumeral 10 text × (digits_value 10 text ≡ n) × (n < 256)
 
+-- the text is a number of milliseconds from 1 to 2^32 - 1 in decimal digits; leading zeros are
+-- allowed
+abbrev pub IsPeriod : List ℕ → ℕ → Type 0
+IsPeriod text n = IsNumeral 10 text × (digits_value 10 text ≡ n) × (0 < n) × (n < 2 ^ 32)
+
 -- the text is a port from 1 to 65535 in decimal digits; leading zeros are allowed
 abbrev pub IsPort : List ℕ → ℕ → Type 0
 IsPort text n = IsNumeral 10 text × (digits_value 10 text ≡ n) × (0 < n) × (n < 65536)

@@ -6,9 +6,10 @@ ghost use Rattle.ndn_jobs.specs.Options.{rows_in, AreParameters};
 ghost use Rattle.ndn_jobs.specs.ShortForm.{AreShortParameters};
 ghost use Rattle.ndn_jobs.specs.RepositoryForm.{AreRepositoryParameters};
 ghost use Rattle.ndn_jobs.specs.Ask.{is_alone, is_list, lacks, list_of, view_of};
+ghost use Rattle.ndn_jobs.specs.Job.{asked_again};
 
 use crate::fault::{ToolFault, refusal};
-use crate::nonce::nonce_or;
+use crate::nonce::{nonce_after, nonce_or};
 use crate::options;
 use crate::repository_form::repository_name;
 use crate::short_form::{action_in, check_fit};
@@ -125,6 +126,8 @@ pub struct Stamp {
     /// The key of the signature. If no key is named, the command is signed with DigestSha256.
     pub key: KeyChoice,
     pub ports: Ports,
+    /// How long to wait for an answer, in milliseconds, if this is given.
+    pub timeout: Option<u32>,
 }
 
 /// Some octets, and the key with which to compute the HMAC of the octets.
@@ -156,6 +159,8 @@ pub struct SendJob {
     pub to: u16,
     /// The source port. `None` means that the system chooses a port.
     pub from: Option<u16>,
+    /// How long to wait for an answer, in milliseconds, if this is given.
+    pub timeout: Option<u32>,
 }
 
 /// An Interest to send or print, and what is printed of the answer.
@@ -164,11 +169,15 @@ pub struct AskJob {
     pub interest: InterestJob,
     pub view: View,
     pub ports: Ports,
+    /// How long to wait for an answer, in milliseconds, if this is given.
+    pub timeout: Option<u32>,
+    /// How often the Interest is sent again if no answer comes in time.
+    pub retries: u64,
 }
 
 impl Job {
     ghost use Rattle.std.specs.Prelude.{◌≡◌, option_map};
-    ghost use Rattle.ndn_jobs.specs.Job.{key_file_of};
+    ghost use Rattle.ndn_jobs.specs.Job.{key_file_of, retried, retries_of};
 
     /// Returns the path of the key file that the job names, or `None` if it names no key file.
     pub fn key_file(&self) -> Option<&str>
@@ -183,6 +192,36 @@ impl Job {
             Job::Help(_) | Job::Show(_) | Job::Send(_) | Job::Ask(_) => None,
         }
     }
+
+    /// Returns how often the job sends its Interest again if no answer comes in time.
+    pub fn retries(&self) -> u64
+        ensures { result ≡ retries_of self.now }
+    {
+        match self {
+            Job::Ask(job) => job.retries,
+            _ => 0,
+        }
+    }
+
+    /// Returns the job with which an Interest is sent again: the Interest has a new Nonce, and the
+    /// number of retries is less by one, if it is not 0. Returns a job of another kind unchanged.
+    pub fn retried(self) -> Job
+        ensures { result ≡ retried self }
+    {
+        match self {
+            Job::Ask(job) => Job::Ask(asked_again(job)),
+            job => job,
+        }
+    }
+}
+
+fn asked_again(job: AskJob) -> AskJob
+    ensures { result ≡ asked_again job }
+{
+    let mut job = job;
+    job.interest.nonce = nonce_after(job.interest.nonce);
+    job.retries = job.retries.saturating_sub(1);
+    job
 }
 
 impl InterestJob {
@@ -384,6 +423,7 @@ impl Stamp {
                 to: None,
                 from: None,
             },
+            timeout: None,
         })
     }
 
@@ -405,6 +445,7 @@ impl Stamp {
             seq: options::number(options, "seq")?,
             key: KeyChoice::read(alloc, options)?,
             ports,
+            timeout: options::period(options, "timeout")?,
         })
     }
 }
@@ -452,7 +493,7 @@ impl AskJob {
         if !is_alone(options) {
             return Err(refusal(
                 "list",
-                "no name and no option but --nonce, --send and --from",
+                "no name and no option but --nonce, --send, --from and --timeout",
             ));
         }
         let list = list_of(subcommand);
@@ -476,12 +517,14 @@ impl AskJob {
             },
             view: View::Table(list),
             ports,
+            timeout: options::period(options, "timeout")?,
+            retries: 0,
         })
     }
 
     /// Returns the job that the options of the subcommand `peek` describe: the Interest, what is
-    /// printed of the answer, and the ports. If no Nonce is given, the Nonce is computed from the
-    /// time and `seed`.
+    /// printed of the answer, the ports, the timeout and the retries. If no Nonce is given, the
+    /// Nonce is computed from the time and `seed`.
     pub fn read_peek(
         alloc: Global,
         options: &ArgMatches<'_>,
@@ -492,6 +535,7 @@ impl AskJob {
     {
         let given = options::nonce(options, "nonce")?;
         let ports = Ports::read(options, "to")?;
+        let retries = options::number(options, "retries")?;
         Ok(AskJob {
             interest: InterestJob {
                 name: options::required_name(alloc, options, "URI")?,
@@ -510,6 +554,8 @@ impl AskJob {
             },
             view: view_of(options::flag(options, "raw")),
             ports,
+            timeout: options::period(options, "timeout")?,
+            retries: retries.unwrap_or(0),
         })
     }
 }
@@ -542,8 +588,8 @@ pub fn is_list(options: &ArgMatches<'_>) -> bool
     }
 }
 
-/// Returns whether the arguments suit the verb `list`. This verb allows the options for the Nonce
-/// and for the ports, and no other arguments.
+/// Returns whether the arguments suit the verb `list`. This verb allows the options for the Nonce,
+/// the ports and the timeout, and no other arguments.
 fn is_alone(options: &ArgMatches<'_>) -> bool
     ensures { result ≡ is_alone (rows_in options.now) }
 {
@@ -602,7 +648,7 @@ impl SendJob {
     ghost use Rattle.ndn_jobs.specs.Value.{ReadsInMemory};
     ghost use Rattle.ndn_jobs.specs.Options.{rows_in, IsSendJob};
 
-    /// Returns the packet and the ports that the options of the subcommand `send` give.
+    /// Returns the packet, the ports and the timeout that the options of the subcommand `send` give.
     pub fn read(alloc: Global, options: &ArgMatches<'_>) -> Result<SendJob, ToolFault>
         ensures { ReadsInMemory (IsSendJob (rows_in options.now)) result }
     {
@@ -610,6 +656,7 @@ impl SendJob {
             packet: options::packet(alloc, options, "HEX")?,
             to: options::required_port(options, "to")?,
             from: options::port(options, "from")?,
+            timeout: options::period(options, "timeout")?,
         })
     }
 }

@@ -1,7 +1,7 @@
 //! The Nonce of an Interest if the options do not give one.
 
 ghost use Rattle.std.specs.Prelude.{◌≡◌, ◌++◌, flat_map, unwrap_or, IfOk, OnOk};
-ghost use Rattle.ndn_jobs.specs.Nonce.{nonce_of, spaced};
+ghost use Rattle.ndn_jobs.specs.Nonce.{nonce_after, nonce_of, spaced};
 
 use sha2::{Digest, Sha256};
 use std::alloc::{AllocError, Global};
@@ -58,6 +58,19 @@ pub fn nonce_or(
         Some(nonce) => Ok(nonce),
         None => nonce_of(alloc, time, seed),
     }
+}
+
+/// Returns the Nonce with which an Interest is sent again: the first four octets of the SHA-256
+/// digest of the Nonce before it.
+pub fn nonce_after(nonce: [u8; 4]) -> [u8; 4]
+    ensures { result ≡ nonce_after nonce }
+{
+    let mut hasher = Sha256::new();
+    hasher.update(&nonce);
+    let digest = hasher.finalize();
+    let mut next = [0; 4];
+    next.copy_from_slice(&digest[..4]);
+    next
 }
 
 /// Returns a Nonce that is computed from a time and a seed: the first four octets of the SHA-256

@@ -2,15 +2,15 @@
 //! counts as an option here.
 ghost use Rattle.std.specs.Prelude.{◌≡◌, Some, None, option_map, MatchResult};
 ghost use Rattle.ndn_names.specs.ReadsAs.{ReadsAs};
-ghost use Rattle.ndn_jobs.specs.Value.{IsNumber, IsHops, IsPort, AreOctets, IsPacket, IsNonce, IsTokenText, IsUsage, Reads, ReadsInMemory};
+ghost use Rattle.ndn_jobs.specs.Value.{IsNumber, IsHops, IsPeriod, IsPort, AreOctets, IsPacket, IsNonce, IsTokenText, IsUsage, Reads, ReadsInMemory};
 ghost use Rattle.ndn_jobs.specs.Options.{rows_in, value_at, Has, MayHave, IsPath, IsFlag, flag_at, SpellsStrategy};
 
 use crate::fault::{ToolFault, Usage};
 use crate::short_form::strategy_uri;
 use crate::token::Token;
 use crate::value::{
-    parse_hops, parse_name, parse_nonce, parse_number, parse_octets, parse_packet, parse_port,
-    parse_strategy, parse_token,
+    parse_hops, parse_name, parse_nonce, parse_number, parse_octets, parse_packet, parse_period,
+    parse_port, parse_strategy, parse_token,
 };
 use clap::ArgMatches;
 use ndn_names::NameBuf;
@@ -126,6 +126,16 @@ pub fn hops(options: &ArgMatches<'_>, id: &'static str) -> Result<Option<u8>, To
     match value(options, id) {
         None => Ok(None),
         Some(value) => Ok(Some(parse_hops(id, value)?)),
+    }
+}
+
+/// Returns the number of milliseconds that an option spells, or `None` if the option is not given.
+pub fn period(options: &ArgMatches<'_>, id: &'static str) -> Result<Option<u32>, ToolFault>
+    ensures { Reads (MayHave (value_at (rows_in options.now) id.now) IsPeriod) result }
+{
+    match value(options, id) {
+        None => Ok(None),
+        Some(value) => Ok(Some(parse_period(id, value)?)),
     }
 }
 

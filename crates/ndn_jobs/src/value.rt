@@ -2,7 +2,7 @@
 //! `BadValue` with the given `place`.
 ghost use Rattle.std.specs.Prelude.{◌≡◌, ℕ, MatchOption};
 ghost use Rattle.ndn_names.specs.ReadsAs.{ReadsAs};
-ghost use Rattle.ndn_jobs.specs.Value.{IsNumber, IsHops, IsPort, AreOctets, IsPacket, IsNonce, IsTokenText, Reads, ReadsInMemory};
+ghost use Rattle.ndn_jobs.specs.Value.{IsNumber, IsHops, IsPeriod, IsPort, AreOctets, IsPacket, IsNonce, IsTokenText, Reads, ReadsInMemory};
 
 use crate::fault::{ToolFault, Usage};
 use crate::token::Token;
@@ -117,6 +117,22 @@ pub fn parse_hops(place: &'static str, text: &str) -> Result<u8, ToolFault>
         return Ok(hops);
     }
     Err(bad_value(place, "a decimal number from 0 to 255"))
+}
+
+/// Returns the number of milliseconds, from 1 to 2^32 - 1, that a text spells in decimal digits.
+pub fn parse_period(place: &'static str, text: &str) -> Result<u32, ToolFault>
+    ensures { Reads (IsPeriod text.now) result }
+{
+    if let Some(number) = parse_digits(text)
+        && let Ok(period) = u32::try_from(number)
+        && period > 0
+    {
+        return Ok(period);
+    }
+    Err(bad_value(
+        place,
+        "a decimal number of milliseconds from 1 to 4294967295",
+    ))
 }
 
 /// Returns the port, from 1 to 65535, that a text spells in decimal digits.

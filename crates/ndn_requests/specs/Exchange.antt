@@ -86,7 +86,7 @@ abbrev pub IsStepped : Bool → Exchange → NodeList → ℕ → List ℕ → P
 IsStepped true old list segment nonce d new progress =
     (progress ≡ Next) × IsRequest (next_name d.name segment) nonce new.request.items
     × (new.contents.items ≡ old.contents.items ++ unwrap_or d.content [])
-    × (new.to ≡ old.to) × (new.from ≡ old.from) × (new.view ≡ old.view)
+    × (new.to ≡ old.to) × (new.from ≡ old.from) × (new.view ≡ old.view) × (new.wait ≡ old.wait)
 IsStepped false old list segment nonce d new progress =
     IsDone (table list (old.contents.items ++ unwrap_or d.content [])) (Ok tt) progress
 

@@ -8,9 +8,9 @@ use Rattle.ndn_requests.specs.declared.fault.Failure.TheVariants.{Refused, NoSta
 abbrev pub silence_text : Silence → Option (List ℕ)
 silence_text Closed = Some (codes "error: no program listens on this port\n")
 silence_text Far =
-    Some (codes "error: no answer came in 4 seconds; give --from, the port of a Local peer\n")
+    Some (codes "error: no answer came in time; give --from, the port of a Local peer\n")
 silence_text Late =
-    Some (codes "error: no answer came in 4 seconds, though a program listens on this port\n")
+    Some (codes "error: no answer came in time, though a program listens on this port\n")
 silence_text Changed =
     Some (codes "error: no further segment came; the list may have changed meanwhile; ask again\n")
 

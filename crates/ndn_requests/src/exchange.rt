@@ -45,6 +45,8 @@ pub struct Exchange {
     pub from: Option<u16>,
     /// What is printed of the answer.
     pub view: View,
+    /// How long to wait for each answer, in milliseconds.
+    pub wait: u64,
     /// The contents of the segments that have been received, joined in order.
     pub contents: Vec<u8>,
 }

@@ -38,11 +38,11 @@ impl fmt::Display for Silence {
         match self {
             Silence::Closed => f.write_str("error: no program listens on this port\n"),
             Silence::Far => f.write_str(
-                "error: no answer came in 4 seconds; give --from, the port of a Local peer\n",
+                "error: no answer came in time; give --from, the port of a Local peer\n",
             ),
             Silence::Late => {
                 f.write_str(
-                    "error: no answer came in 4 seconds, though a program listens on this port\n",
+                    "error: no answer came in time, though a program listens on this port\n",
                 )
             }
             Silence::Changed => f.write_str(
