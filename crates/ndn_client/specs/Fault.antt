@@ -1,6 +1,6 @@
 -- The message and the exit status of each fault of the program.
 use Rattle.std.specs.Prelude.{ℕ, List, ◌++◌, codes, Option, Some, string_bytes}
-use Rattle.std.specs.Fmt.{decimal}
+use Rattle.std.specs.Net.Text.{socket_text}
 use Rattle.hmac_keys.specs.declared.fault.KeyFault.{KeyFault}
 use Rattle.hmac_keys.specs.declared.fault.KeyFault.TheVariants.{BadLine, TwiceNamed, TooMany, Memory as KeyMemory}
 use Rattle.file_faults.specs.Advice.{cause_of, key_text}
@@ -49,7 +49,7 @@ status_of fault.Clock = 3
 status_of fault.Write = 3
 status_of fault.Input = 3
 status_of fault.Send = 3
-status_of (fault.Unbound port) = 3
+status_of (fault.Unbound endpoint) = 3
 status_of (fault.Silent why) = 3
 status_of (fault.NotDone why) = failure_status why
 
@@ -67,7 +67,7 @@ text_of fault.Clock = Some (codes "error: the clock cannot be read\n")
 text_of fault.Write = Some (codes "error: standard output cannot be written\n")
 text_of fault.Input = Some (codes "error: standard input cannot be read as UTF-8 text\n")
 text_of fault.Send = Some (codes "error: the packet cannot be sent to this port\n")
-text_of (fault.Unbound port) = Some (codes "error: 127.0.0.1:" ++ (decimal port
+text_of (fault.Unbound endpoint) = Some (codes "error: " ++ (socket_text endpoint
     ++ codes " cannot be bound: give --from a port that no other program uses\n"))
 text_of (fault.Silent why) = silence_text why
 text_of (fault.NotDone why) = failure_text why

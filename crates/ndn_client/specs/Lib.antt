@@ -3,10 +3,12 @@ pub mod KeyFile
 pub mod Input
 pub mod Answer
 pub mod Plan
+pub mod Source
 pub use Rattle.ndn_explain.specs.Show
 pub use Rattle.ndn_explain.specs.TagCheck
 pub use Rattle.ndn_explain.specs.Explain
 pub use Rattle.ndn_jobs.specs.Value
+pub use Rattle.ndn_jobs.specs.Endpoint
 pub use Rattle.ndn_jobs.specs.Options
 pub use Rattle.ndn_jobs.specs.Nonce
 pub use Rattle.ndn_jobs.specs.ShortForm

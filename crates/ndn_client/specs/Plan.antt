@@ -35,7 +35,7 @@ input_form (job.Explain asked) = if is_none asked.packet then Lines else Nothing
 input_form (job.Send asked) = if is_none asked.packet then Packet else Nothing
 input_form asked = Nothing
 
--- the destination port and the source port of the job's packet; no ports if the job sends no packet
+-- the destination and the source port of the job's packet; neither if the job sends no packet
 abbrev pub ports_of : Job → Ports
 ports_of (job.Command asked) = asked.stamp.ports
 ports_of (job.Ask asked) = asked.ports
@@ -91,7 +91,7 @@ IsRequest asked book input packet = packet.items ≡ []
 
 -- ---- plans
 
--- The job `asked` sends a packet to a port, and `x` is the exchange of this job.
+-- The job `asked` sends a packet, and `x` is the exchange of this job.
 pub record IsExchange (asked : Job) (book : List NamedKey) (input : List ℕ) (x : Exchange) : Type 0
   where
     pub request : IsRequest asked book input x.request

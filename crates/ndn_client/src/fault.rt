@@ -11,6 +11,7 @@ use ndn_tlv::Memory;
 use std::alloc::AllocError;
 use std::fmt;
 use std::io::ErrorKind;
+use std::net::SocketAddr;
 
 /// Why the program fails.
 #[derive(Debug, Drop)]
@@ -40,12 +41,12 @@ pub enum Fault {
     /// Standard input cannot be read, or is not UTF-8.
     Input,
     /// The packet cannot be sent, no free source port can be bound, or the socket cannot be
-    /// connected to the destination port.
+    /// connected to the destination.
     Send,
-    /// The local port to send from cannot be bound.
+    /// The port to send from cannot be bound.
     Unbound {
-        /// The port on 127.0.0.1.
-        port: u16,
+        /// The port, and the address to send from.
+        endpoint: SocketAddr,
     },
     /// No answer came to the packet of the subcommand `send`, which is sent unchanged.
     Silent(Silence),
@@ -63,7 +64,7 @@ impl Fault {
     /// exit status is 2 if an argument is not UTF-8. The exit status is 3 if reading, writing or
     /// sending failed, if a port could not be bound, if memory ran out, or if no answer came to the
     /// packet of `send`. For any other request the exit status is 4 if a Nack came back, 5 if no
-    /// answer came in time, and 6 if no program listens on the destination port.
+    /// answer came in time, and 6 if no program listens at the destination.
     pub fn exit_status(&self) -> u8
         ensures { result ≡ status_of self.now }
     {
@@ -124,9 +125,9 @@ impl fmt::Display for Fault {
             Fault::Write => f.write_str("error: standard output cannot be written\n"),
             Fault::Input => f.write_str("error: standard input cannot be read as UTF-8 text\n"),
             Fault::Send => f.write_str("error: the packet cannot be sent to this port\n"),
-            Fault::Unbound { port } => writeln!(
+            Fault::Unbound { endpoint } => writeln!(
                 f,
-                "error: 127.0.0.1:{port} cannot be bound: give --from a port that no other program uses"
+                "error: {endpoint} cannot be bound: give --from a port that no other program uses"
             ),
             Fault::Silent(silence) => silence.fmt(f),
             Fault::NotDone(failure) => failure.fmt(f),

@@ -8,6 +8,7 @@ mod input;
 mod key_file;
 mod plan;
 mod running;
+mod source;
 
 pub use fault::Fault;
 pub use input::{packet_in, read_input_line, read_packet_input};
@@ -22,3 +23,4 @@ pub use ndn_requests::{
 };
 pub use plan::{InputForm, Plan, fault_of_silence, input_form, plan_of};
 pub use running::{book_of, exchange_on, run, socket_of};
+pub use source::source_of;

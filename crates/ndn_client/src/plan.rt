@@ -73,8 +73,8 @@ pub fn plan_of(alloc: Global, job: &Job, book: &KeyBook, input: &str) -> Result<
     }
 }
 
-/// Returns the destination port and the source port of the job's packet, or no ports if the job
-/// sends no packet.
+/// Returns the destination and the source port of the job's packet, or neither if the job sends no
+/// packet.
 fn ports_of(job: &Job) -> Ports
     ensures { result ≡ ports_of job.now }
 {
@@ -167,9 +167,9 @@ fn sent_packet(alloc: Global, job: &SendJob, input: &str) -> Result<Vec<u8>, Too
     }
 }
 
-/// Returns the fault of a request without an answer. `is_closed` is true if no program listens on
-/// the destination port. The exit status is 3 for the packet of `send`. For any other request it is
-/// 6 if no program listens on the destination port, and 5 otherwise.
+/// Returns the fault of a request without an answer. `is_closed` is true if no program listens at
+/// the destination. The exit status is 3 for the packet of `send`. For any other request it is 6 if
+/// no program listens at the destination, and 5 otherwise.
 pub fn fault_of_silence(exchange: &Exchange, is_closed: bool) -> Fault
     ensures { result ≡ fault_of_silence exchange.now is_closed }
 {

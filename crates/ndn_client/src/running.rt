@@ -6,19 +6,21 @@ use crate::fault::Fault;
 use crate::input::{read_input_line, read_packet_input};
 use crate::key_file::{read_key_file, unread_keys};
 use crate::plan::{InputForm, Plan, fault_of_silence, input_form, plan_of};
+use crate::source::source_of;
 use hmac_keys::KeyBook;
 use ndn_jobs::{Job, ToolFault, parse_words};
 use ndn_requests::{Exchange, Failure, Outcome, Progress, Silence};
 use std::env::Env;
 use std::fs::File;
 use std::io::{BufRead, BufReader, Input, Read, Write};
-use std::net::{Ipv4Addr, Net, UdpSocket};
+use std::net::{Net, SocketAddr, UdpSocket};
 use std::rt::Files;
 use std::time::{Clock, Duration, Instant, SystemTime};
 use std::{env, io};
 
-/// The greatest length of the payload of a UDP datagram over IPv4, in octets.
-const MAX_DATAGRAM: usize = 65_507;
+/// The greatest length of the payload of a UDP datagram, in octets. Over IPv4 the greatest length is
+/// less by 20.
+const MAX_DATAGRAM: usize = 65_527;
 
 /// The path of the system's random source.
 const RANDOM_SOURCE: &str = "/dev/urandom";
@@ -29,7 +31,7 @@ const RANDOM_OCTETS: usize = 16;
 /// Why no datagram was received.
 #[derive(Clone, Copy)]
 enum Missed {
-    /// No program uses the destination port.
+    /// No program listens at the destination.
     Closed,
     /// No datagram arrived in time, or receiving failed for another reason.
     Late,
@@ -231,24 +233,23 @@ fn next_answer<R: Clock + AllocGlobal + Eprint + Print>(
     Err(fault_of_silence(exchange, false))
 }
 
-/// Returns a socket from port `from` to port `to` of 127.0.0.1. If `from` is not given, the system
-/// chooses a port.
+/// Returns a socket from port `from` to `to`. If `from` is not given, the system chooses a port. The
+/// socket has the address of `source_of`.
 ///
 /// # Errors
 ///
 /// `Unbound` if the given port `from` cannot be bound, for example because another program uses the
 /// port. `Send` if `from` is not given and no port can be bound, or if the socket cannot be
 /// connected to `to`.
-pub fn socket_of<R: Net>(rt: &R, from: Option<u16>, to: u16) -> Result<UdpSocket, Fault> {
-    let Ok(socket) = UdpSocket::bind(rt, (Ipv4Addr::LOCALHOST, from.unwrap_or(0))) else {
+pub fn socket_of<R: Net>(rt: &R, from: Option<u16>, to: SocketAddr) -> Result<UdpSocket, Fault> {
+    let endpoint = source_of(from, &to);
+    let Ok(socket) = UdpSocket::bind(rt, endpoint) else {
         return Err(match from {
-            Some(port) => Fault::Unbound { port },
+            Some(_) => Fault::Unbound { endpoint },
             None => Fault::Send,
         });
     };
-    socket
-        .connect((Ipv4Addr::LOCALHOST, to))
-        .map_err(|_| Fault::Send)?;
+    socket.connect(to).map_err(|_| Fault::Send)?;
     Ok(socket)
 }
 

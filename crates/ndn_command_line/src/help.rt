@@ -7,7 +7,8 @@ pub const ABOUT: &str =
 
 pub const TOOL: &str =
     "HEX stands for octets in hexadecimal: two digits for each octet, in upper or lower case. URI is
-the text of a name, such as /A/seg=5. N is a decimal number.
+the text of a name, such as /A/seg=5. N is a decimal number. ENDPOINT is a port of 127.0.0.1, such
+as 6363, or an address and a port, such as 192.0.2.1:6363 or [2001:db8::1]:6363.
 
 Each line of a key file has the URI of a key's name, a space, and the key in hexadecimal. Empty
 lines, and lines that begin with ;, are skipped.
@@ -74,7 +75,8 @@ pub const ROUTE: &str =
 
 With --send, the request is sent. Then the fields of the answer are printed; for a list, a table is
 printed instead, with tabs between its columns. Without --send, the request is only printed, in
-hexadecimal. The option --from requires --send.
+hexadecimal. The option --from requires --send. ENDPOINT is a port of 127.0.0.1, such as 6363, or an
+address and a port, such as 192.0.2.1:6363 or [2001:db8::1]:6363.
 
 The signature of a command is HmacWithSha256 with --key, and DigestSha256 without --key. If --time
 is absent, the signature time is the time of the clock. If --nonce is absent, the Nonce is random.
@@ -101,7 +103,8 @@ STRATEGY is best-route, multicast or the URI of a strategy.
 
 With --send, the request is sent. Then the fields of the answer are printed; for a list, a table is
 printed instead, with tabs between its columns. Without --send, the request is only printed, in
-hexadecimal. The option --from requires --send.
+hexadecimal. The option --from requires --send. ENDPOINT is a port of 127.0.0.1, such as 6363, or an
+address and a port, such as 192.0.2.1:6363 or [2001:db8::1]:6363.
 
 The signature of a command is HmacWithSha256 with --key, and DigestSha256 without --key. If --time
 is absent, the signature time is the time of the clock. If --nonce is absent, the Nonce is random.
@@ -113,7 +116,8 @@ Example: print a command that sets the strategy of /A to multicast.
 pub const CACHE: &str =
     "The only verb is erase. With --send, the command is sent, and then the fields of the answer are
 printed. Without --send, the command is only printed, in hexadecimal. The option --from requires
---send.
+--send. ENDPOINT is a port of 127.0.0.1, such as 6363, or an address and a port, such as
+192.0.2.1:6363 or [2001:db8::1]:6363.
 
 The signature is HmacWithSha256 with --key, and DigestSha256 without --key. If --time is absent, the
 signature time is the time of the clock. If --nonce is absent, the Nonce is random.
@@ -127,7 +131,8 @@ pub const REPOSITORY: &str = "The verbs:
   check   counts the stored Data that match NAME
 
 With --send, the command is sent, and then the fields of the answer are printed. Without --send, the
-command is only printed, in hexadecimal. The option --from requires --send.
+command is only printed, in hexadecimal. The option --from requires --send. ENDPOINT is a port of
+127.0.0.1, such as 6363, or an address and a port, such as 192.0.2.1:6363 or [2001:db8::1]:6363.
 
 The signature is HmacWithSha256 with --key, and DigestSha256 without --key. If --time is absent, the
 signature time is the time of the clock. If --nonce is absent, the Nonce is random.
@@ -176,9 +181,12 @@ Example: a Data named /A, with the name of a key, and with an empty signature va
   text x";
 
 pub const SEND: &str =
-    "Sends the octets as one datagram to a port of 127.0.0.1. Then prints the first datagram that
-comes back, in hexadecimal, whatever it contains. If HEX is -, the octets are read from standard
+    "Sends the octets as one datagram to a port. Then prints the first datagram that comes back, in
+hexadecimal, whatever it contains. If HEX is -, the octets are read from standard
 input, in hexadecimal. If no datagram comes back in time, the exit status is 3.
+
+ENDPOINT is a port of 127.0.0.1, such as 6363, or an address and a port, such as 192.0.2.1:6363 or
+[2001:db8::1]:6363.
 
 Example: write an Interest, send it to the node at port 6363, and explain the answer.
   $ ndn_tool interest /A --nonce 01020304 | ndn_tool send - --to 6363 | ndn_tool explain -";
@@ -194,8 +202,12 @@ The client waits for an answer as long as --timeout says. Without --timeout it w
 --lifetime, and without both for 4,000 milliseconds. With --retries, after each silence the Interest
 is sent again with a new Nonce, at most N times.
 
-Example: the Content of /A, from the node at port 6363.
-  $ ndn_tool peek /A --to 6363 --raw";
+ENDPOINT is a port of 127.0.0.1, such as 6363, or an address and a port, such as 192.0.2.1:6363 or
+[2001:db8::1]:6363.
+
+Example: the Content of /A, from the node at port 6363, and from a node on another machine.
+  $ ndn_tool peek /A --to 6363 --raw
+  $ ndn_tool peek /A --to 192.0.2.1:6363 --raw";
 
 pub const TIME: &str = "The time of the signature, in milliseconds since 1970";
 
@@ -230,11 +242,11 @@ pub const KEYS: &str = "The key file";
 
 pub const KEY: &str = "The name of the key that signs";
 
-pub const PORT: &str = "Sends the request to this port of 127.0.0.1, and prints the answer";
+pub const SEND_TO: &str = "Sends the request to this port, and prints the answer";
 
-pub const TO: &str = "The port of 127.0.0.1 to which the packet is sent";
+pub const TO: &str = "The port to which the packet is sent";
 
-pub const FROM: &str = "The port of 127.0.0.1 from which the packet is sent; a free port if absent";
+pub const FROM: &str = "The port from which the packet is sent; a free port if absent";
 
 pub const TIMEOUT: &str = "How long to wait for an answer, in milliseconds; 4000 if absent";
 

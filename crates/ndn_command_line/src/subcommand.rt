@@ -271,7 +271,7 @@ fn send_command<'a>(alloc: Global) -> Result<Command<'a>, AllocError>
 {
     let arguments = [
         Argument::Positional("HEX", "The octets, or - to read them from standard input"),
-        Argument::Required("to", "PORT", help::TO),
+        Argument::Required("to", "ENDPOINT", help::TO),
         Argument::Optional("from", "PORT", help::FROM),
         Argument::Optional("timeout", "MILLISECONDS", help::TIMEOUT),
     ];
@@ -289,7 +289,7 @@ fn peek_command<'a>(alloc: Global) -> Result<Command<'a>, AllocError>
         Argument::Optional("lifetime", "N", help::LIFETIME),
         Argument::Optional("nonce", "HEX", help::NONCE),
         Argument::Flag("raw", "Prints only the Content, unchanged"),
-        Argument::Optional("to", "PORT", help::TO),
+        Argument::Optional("to", "ENDPOINT", help::TO),
         Argument::Optional("from", "PORT", help::FROM),
         Argument::Optional("timeout", "MILLISECONDS", help::PEEK_TIMEOUT),
         Argument::Optional("retries", "N", help::RETRIES),
@@ -308,7 +308,7 @@ fn with_stamp<'a>(alloc: Global, command: Command<'a>) -> Result<Command<'a>, Al
         Argument::Optional("seq", "N", help::SEQ),
         Argument::Optional("keys", "FILE", help::KEYS),
         Argument::Optional("key", "URI", help::KEY),
-        Argument::Optional("send", "PORT", help::PORT),
+        Argument::Optional("send", "ENDPOINT", help::SEND_TO),
         Argument::Optional("from", "PORT", help::FROM),
         Argument::Optional("timeout", "MILLISECONDS", help::TIMEOUT),
     ];

@@ -1,4 +1,5 @@
 pub mod Value
+pub mod Endpoint
 pub mod Options
 pub mod Nonce
 pub mod ShortForm

@@ -17,6 +17,7 @@ use Rattle.ndn_jobs.specs.declared.job.CommandJob.{CommandJob}
 use Rattle.ndn_jobs.specs.declared.job.TagJob.{TagJob}
 use Rattle.ndn_jobs.specs.declared.job.ExplainJob.{ExplainJob}
 use Rattle.ndn_jobs.specs.declared.job.SendJob.{SendJob}
+use Rattle.ndn_jobs.specs.Endpoint.{IsEndpoint}
 use Rattle.ndn_jobs.specs.Value.{IsNumber, IsHops, IsPeriod, IsPort, AreOctets, IsPacket, IsNonce, IsTokenText}
 
 -- the parsed values of all options
@@ -71,13 +72,13 @@ pub record IsKeyChoice (rows : List Row) (choice : KeyChoice) : Type 0 where
   pub keys : MayHave (value_at rows (codes "keys")) IsPath choice.keys
   pub key : MayHave (value_at rows (codes "key")) ReadsAs choice.key
 
--- the destination port and the source port of a packet; a source port requires a destination port
+-- the destination and the source port of a packet; a source port requires a destination
 pub record IsPorts (target source : Option (List ℕ)) (ports : Ports) : Type 0 where
-  pub to : MayHave target IsPort ports.to
+  pub to : MayHave target IsEndpoint ports.to
   pub from : MayHave source IsPort ports.from
   pub pair : is_none ports.to && is_some ports.from ≡ false
 
--- neither port is given, so the packet is not sent
+-- neither a destination nor a source port is given, so the packet is not sent
 abbrev pub AreNoPorts : Ports → Type 0
 AreNoPorts ports = (ports.to ≡ None) × (ports.from ≡ None)
 
@@ -140,7 +141,7 @@ pub record IsExplainJob (rows : List Row) (job : ExplainJob) : Type 0 where
 
 pub record IsSendJob (rows : List Row) (job : SendJob) : Type 0 where
   pub packet : Has (value_at rows (codes "HEX")) IsPacket job.packet
-  pub to : Has (value_at rows (codes "to")) IsPort job.to
+  pub to : Has (value_at rows (codes "to")) IsEndpoint job.to
   pub from : MayHave (value_at rows (codes "from")) IsPort job.from
   pub timeout : MayHave (value_at rows (codes "timeout")) IsPeriod job.timeout
 

@@ -19,6 +19,7 @@ use mgmt_core::Action;
 use ndn_names::NameBuf;
 use ndn_requests::{NodeList, Parameters, View, action_name, list_name};
 use std::alloc::Global;
+use std::net::SocketAddr;
 
 /// What a command line asks for: the help, the version, or a subcommand with its options.
 #[derive(Drop)]
@@ -29,8 +30,7 @@ pub enum Job {
     Interest(LinkJob),
     /// Write a Data.
     Data(DataJob),
-    /// Write a command. If a destination port is given, send the command. Otherwise print the
-    /// command.
+    /// Write a command. If a destination is given, send the command. Otherwise print the command.
     Command(CommandJob),
     /// Compute the HMAC of some octets.
     Tag(TagJob),
@@ -40,16 +40,16 @@ pub enum Job {
     Explain(ExplainJob),
     /// Send a packet, and print the first datagram that comes back.
     Send(SendJob),
-    /// If a destination port is given, send an Interest (for a list, one for each segment), and
-    /// print what the answers contain. Otherwise print the first Interest.
+    /// If a destination is given, send an Interest (for a list, one for each segment), and print
+    /// what the answers contain. Otherwise print the first Interest.
     Ask(AskJob),
 }
 
-/// The destination port and the source port of a packet, both at 127.0.0.1.
+/// Where a packet is sent, and the port from which it is sent.
 #[derive(Clone, Copy, Debug)]
 pub struct Ports {
-    /// The destination port. `None` means that the packet is printed.
-    pub to: Option<u16>,
+    /// The destination. `None` means that the packet is printed.
+    pub to: Option<SocketAddr>,
     /// The source port. `None` means that the system chooses a port.
     pub from: Option<u16>,
 }
@@ -155,8 +155,8 @@ pub struct ExplainJob {
 pub struct SendJob {
     /// The packet. `None` means that the packet is read from standard input.
     pub packet: Option<Vec<u8>>,
-    /// The destination port at 127.0.0.1.
-    pub to: u16,
+    /// The destination.
+    pub to: SocketAddr,
     /// The source port. `None` means that the system chooses a port.
     pub from: Option<u16>,
     /// How long to wait for an answer, in milliseconds, if this is given.
@@ -455,14 +455,14 @@ impl Ports {
     ghost use Rattle.ndn_jobs.specs.Value.{Reads};
     ghost use Rattle.ndn_jobs.specs.Options.{rows_in, value_at, IsPorts};
 
-    /// Returns the ports that the options spell. The option with the id `id` spells the destination
-    /// port. The option `from` spells the source port. The option `from` is refused if no
-    /// destination port is given.
+    /// Returns the ports that the options spell. The option with the id `id` spells the destination.
+    /// The option `from` spells the source port. The option `from` is refused if no destination is
+    /// given.
     fn read(options: &ArgMatches<'_>, id: &'static str) -> Result<Ports, ToolFault>
         ensures { Reads (IsPorts (value_at (rows_in options.now) id.now)
             (value_at (rows_in options.now) (codes "from"))) result }
     {
-        let to = options::port(options, id)?;
+        let to = options::endpoint(options, id)?;
         let from = options::port(options, "from")?;
         if to.is_none() && from.is_some() {
             return Err(refusal("from", "the port to send to as well"));
@@ -654,7 +654,7 @@ impl SendJob {
     {
         Ok(SendJob {
             packet: options::packet(alloc, options, "HEX")?,
-            to: options::required_port(options, "to")?,
+            to: options::required_endpoint(options, "to")?,
             from: options::port(options, "from")?,
             timeout: options::period(options, "timeout")?,
         })

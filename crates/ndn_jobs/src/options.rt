@@ -3,18 +3,20 @@
 ghost use Rattle.std.specs.Prelude.{◌≡◌, Some, None, option_map, MatchResult};
 ghost use Rattle.ndn_names.specs.ReadsAs.{ReadsAs};
 ghost use Rattle.ndn_jobs.specs.Value.{IsNumber, IsHops, IsPeriod, IsPort, AreOctets, IsPacket, IsNonce, IsTokenText, IsUsage, Reads, ReadsInMemory};
+ghost use Rattle.ndn_jobs.specs.Endpoint.{IsEndpoint};
 ghost use Rattle.ndn_jobs.specs.Options.{rows_in, value_at, Has, MayHave, IsPath, IsFlag, flag_at, SpellsStrategy};
 
 use crate::fault::{ToolFault, Usage};
 use crate::short_form::strategy_uri;
 use crate::token::Token;
 use crate::value::{
-    parse_hops, parse_name, parse_nonce, parse_number, parse_octets, parse_packet, parse_period,
+    parse_endpoint, parse_hops, parse_name, parse_nonce, parse_number, parse_octets, parse_packet, parse_period,
     parse_port, parse_strategy, parse_token,
 };
 use clap::ArgMatches;
 use ndn_names::NameBuf;
 use std::alloc::Global;
+use std::net::SocketAddr;
 
 /// Returns the value of an option, or `None` if the option is not given.
 pub fn value<'a>(options: &ArgMatches<'a>, id: &str) -> Option<&'a str>
@@ -95,11 +97,14 @@ pub fn required_number(options: &ArgMatches<'_>, id: &'static str) -> Result<u64
     parse_number(id, required(options, id)?)
 }
 
-/// Returns the port that a required option spells.
-pub fn required_port(options: &ArgMatches<'_>, id: &'static str) -> Result<u16, ToolFault>
-    ensures { Reads (Has (value_at (rows_in options.now) id.now) IsPort) result }
+/// Returns the address and the port that a required option spells.
+pub fn required_endpoint(
+    options: &ArgMatches<'_>,
+    id: &'static str,
+) -> Result<SocketAddr, ToolFault>
+    ensures { Reads (Has (value_at (rows_in options.now) id.now) IsEndpoint) result }
 {
-    parse_port(id, required(options, id)?)
+    parse_endpoint(id, required(options, id)?)
 }
 
 /// Returns whether a flag is given.
@@ -146,6 +151,19 @@ pub fn port(options: &ArgMatches<'_>, id: &'static str) -> Result<Option<u16>, T
     match value(options, id) {
         None => Ok(None),
         Some(value) => Ok(Some(parse_port(id, value)?)),
+    }
+}
+
+/// Returns the address and the port that an option spells, or `None` if the option is not given.
+pub fn endpoint(
+    options: &ArgMatches<'_>,
+    id: &'static str,
+) -> Result<Option<SocketAddr>, ToolFault>
+    ensures { Reads (MayHave (value_at (rows_in options.now) id.now) IsEndpoint) result }
+{
+    match value(options, id) {
+        None => Ok(None),
+        Some(value) => Ok(Some(parse_endpoint(id, value)?)),
     }
 }
 

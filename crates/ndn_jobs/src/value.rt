@@ -2,13 +2,15 @@
 //! `BadValue` with the given `place`.
 ghost use Rattle.std.specs.Prelude.{◌≡◌, ℕ, MatchOption};
 ghost use Rattle.ndn_names.specs.ReadsAs.{ReadsAs};
-ghost use Rattle.ndn_jobs.specs.Value.{IsNumber, IsHops, IsPeriod, IsPort, AreOctets, IsPacket, IsNonce, IsTokenText, Reads, ReadsInMemory};
+ghost use Rattle.ndn_jobs.specs.Value.{IsNumber, IsHops, IsPeriod, IsPort, AreOctets, IsPacket, IsNonce, IsTokenText, IsUsage, Reads, ReadsInMemory};
+ghost use Rattle.ndn_jobs.specs.Endpoint.{IsEndpoint};
 
 use crate::fault::{ToolFault, Usage};
 use crate::token::Token;
 use hex::FromHexError;
 use ndn_names::{NameBuf, NameFault};
 use std::alloc::Global;
+use std::net::{IpAddr, Ipv4Addr, SocketAddr};
 
 /// Returns the name whose URI is this text.
 pub fn parse_name(alloc: Global, place: &'static str, text: &str) -> Result<NameBuf, ToolFault>
@@ -139,13 +141,42 @@ pub fn parse_period(place: &'static str, text: &str) -> Result<u32, ToolFault>
 pub fn parse_port(place: &'static str, text: &str) -> Result<u16, ToolFault>
     ensures { Reads (IsPort text.now) result }
 {
-    if let Some(number) = parse_digits(text)
-        && let Ok(port) = u16::try_from(number)
+    match port_of(text) {
+        Some(port) => Ok(port),
+        None => Err(bad_value(place, "a port, a decimal number from 1 to 65535")),
+    }
+}
+
+/// Returns the address and the port that a text spells. A port alone stands for the address
+/// 127.0.0.1 with this port.
+pub fn parse_endpoint(place: &'static str, text: &str) -> Result<SocketAddr, ToolFault>
+    ensures { Reads (IsEndpoint text.now) result }
+{
+    if let Some(port) = port_of(text) {
+        return Ok(SocketAddr::new(IpAddr::V4(Ipv4Addr::LOCALHOST), port));
+    }
+    let Ok(endpoint) = text.parse::<SocketAddr>() else {
+        return Err(bad_endpoint(place));
+    };
+    if endpoint.port() == 0 {
+        return Err(bad_endpoint(place));
+    }
+    Ok(endpoint)
+}
+
+/// Returns the port, from 1 to 65535, that a text of one or more decimal digits spells. Returns
+/// `None` if the text spells no such port.
+fn port_of(text: &str) -> Option<u16>
+    ensures { MatchOption result ((n : ℕ) → IsPort text.now n → ⊥) (IsPort text.now) }
+{
+    // The standard parser of numbers would accept a plus sign.
+    if !text.starts_with('+')
+        && let Ok(port) = text.parse::<u16>()
         && port > 0
     {
-        return Ok(port);
+        return Some(port);
     }
-    Err(bad_value(place, "a port, a decimal number from 1 to 65535"))
+    None
 }
 
 /// Returns the number below 2^64 that a text of one or more decimal digits spells. Returns `None`
@@ -164,4 +195,13 @@ fn bad_value(place: &'static str, wanted: &'static str) -> ToolFault
     ensures { result ≡ ToolFault.Usage (Usage.BadValue place.entry wanted.entry) }
 {
     ToolFault::Usage(Usage::BadValue { place, wanted })
+}
+
+fn bad_endpoint(place: &'static str) -> ToolFault
+    ensures { IsUsage result }
+{
+    ToolFault::Usage(Usage::BadValue {
+        place,
+        wanted: "a decimal port from 1 to 65535, or an address and a port, such as 192.0.2.1:6363 or [2001:db8::1]:6363",
+    })
 }

@@ -17,6 +17,7 @@ use ndn_names::{Name, NameBuf};
 use ndn_packets::{Data, Frame, InterestWriter, WriteFault, read_frame};
 use ndn_tlv::{Memory, put_nni};
 use std::alloc::Global;
+use std::net::SocketAddr;
 
 /// What is printed of the answer to a request.
 #[derive(Clone, Copy, Debug, PartialEq, Eq)]
@@ -39,8 +40,8 @@ pub enum View {
 pub struct Exchange {
     /// The packet to send.
     pub request: Vec<u8>,
-    /// The destination port at 127.0.0.1.
-    pub to: u16,
+    /// The destination.
+    pub to: SocketAddr,
     /// The source port. `None` means that the system chooses a port.
     pub from: Option<u16>,
     /// What is printed of the answer.
@@ -222,7 +223,7 @@ impl Exchange {
         Ok(Progress::Next)
     }
 
-    /// Returns why no answer came. `is_closed` is true if no program listens on the port `to`.
+    /// Returns why no answer came. `is_closed` is true if no program listens at the destination.
     pub fn silence(&self, is_closed: bool) -> Silence
         ensures { result ≡ silence_in self.now is_closed }
     {
