@@ -4,6 +4,7 @@ use Rattle.std.specs.Net.Text.{socket_text}
 use Rattle.hmac_keys.specs.declared.fault.KeyFault.{KeyFault}
 use Rattle.hmac_keys.specs.declared.fault.KeyFault.TheVariants.{BadLine, TwiceNamed, TooMany, Memory as KeyMemory}
 use Rattle.file_faults.specs.Advice.{cause_of, key_text}
+use Rattle.ndn_names.specs.Uri.{uri_of}
 use Rattle.ndn_jobs.specs.Fault.{tool_status, tool_text}
 use Rattle.ndn_requests.specs.declared.fault.Silence.{Silence}
 use Rattle.ndn_requests.specs.declared.fault.Silence.TheVariants.{Closed, Far, Late, Changed}
@@ -36,8 +37,8 @@ failure_status (Silent why) = silence_status why
 -- The exit status. It is 1 if a key is named without a key file, or if the key file is too large or
 -- its content has a fault. It is 2 if an argument is not UTF-8. It is 3 if reading, writing or
 -- sending failed, if a port could not be bound, if memory ran out, or if no answer came to the
--- packet of `send`. A request that was not done, and the fault of a job, have their own exit
--- statuses.
+-- packet of `send`. It is 7 if the signature of the answer is wrong. A request that was not done,
+-- and the fault of a job, have their own exit statuses.
 abbrev pub status_of : Fault → ℕ
 status_of (fault.Tool why) = tool_status why
 status_of fault.NoKeyFile = 1
@@ -52,6 +53,7 @@ status_of fault.Send = 3
 status_of (fault.Unbound endpoint) = 3
 status_of (fault.Silent why) = 3
 status_of (fault.NotDone why) = failure_status why
+status_of (fault.Forged name) = 7
 
 -- the message for standard error, which ends with an LF, or None if the command-line parser makes
 -- the message
@@ -71,3 +73,5 @@ text_of (fault.Unbound endpoint) = Some (codes "error: " ++ (socket_text endpoin
     ++ codes " cannot be bound: give --from a port that no other program uses\n"))
 text_of (fault.Silent why) = silence_text why
 text_of (fault.NotDone why) = failure_text why
+text_of (fault.Forged name) = Some (codes "error: the signature of the Data " ++ (uri_of name
+    ++ codes " is wrong; --unverified prints the Data nevertheless\n"))

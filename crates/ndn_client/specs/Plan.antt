@@ -59,6 +59,11 @@ wait_of (job.Ask asked) = wait_for asked.timeout asked.interest.lifetime
 wait_of (job.Send asked) = wait_for asked.timeout None
 wait_of asked = wait_for None None
 
+-- whether a Data with a wrong signature is printed
+abbrev pub unverified_of : Job → Bool
+unverified_of (job.Ask asked) = asked.unverified
+unverified_of asked = false
+
 -- ---- what is printed
 
 abbrev pub IsExplained : Bool → ExplainJob → List NamedKey → List ℕ → List ℕ → Type 0
@@ -99,6 +104,7 @@ pub record IsExchange (asked : Job) (book : List NamedKey) (input : List ℕ) (x
     pub from : (ports_of asked).from ≡ x.from
     pub view : x.view ≡ view_of asked
     pub wait : x.wait ≡ wait_of asked
+    pub unverified : x.unverified ≡ unverified_of asked
     pub contents : x.contents.items ≡ []
 
 abbrev pub IsPlan : Job → List NamedKey → List ℕ → Plan → Type 0

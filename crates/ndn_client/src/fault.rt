@@ -5,6 +5,7 @@ ghost use Rattle.ndn_client.specs.Fault.{failure_status};
 use file_faults::{KeyMessage, cause_of};
 use hmac_keys::KeyFault;
 use ndn_jobs::ToolFault;
+use ndn_names::NameBuf;
 use ndn_packets::WriteFault;
 use ndn_requests::{Failure, Silence};
 use ndn_tlv::Memory;
@@ -52,6 +53,11 @@ pub enum Fault {
     Silent(Silence),
     /// A request was sent. It was not carried out, or no answer came.
     NotDone(Failure),
+    /// The signature of the Data that came back is wrong.
+    Forged {
+        /// The name of the Data.
+        name: NameBuf,
+    },
 }
 
 impl Fault {
@@ -64,7 +70,8 @@ impl Fault {
     /// exit status is 2 if an argument is not UTF-8. The exit status is 3 if reading, writing or
     /// sending failed, if a port could not be bound, if memory ran out, or if no answer came to the
     /// packet of `send`. For any other request the exit status is 4 if a Nack came back, 5 if no
-    /// answer came in time, and 6 if no program listens at the destination.
+    /// answer came in time, 6 if no program listens at the destination, and 7 if the signature of
+    /// the Data that came back is wrong.
     pub fn exit_status(&self) -> u8
         ensures { result ≡ status_of self.now }
     {
@@ -75,6 +82,7 @@ impl Fault {
             | Fault::LargeKeys
             | Fault::NoKeyFile => 1,
             Fault::NotDone(failure) => failure_status(*failure),
+            Fault::Forged { .. } => 7,
             Fault::Keys(KeyFault::Memory)
             | Fault::Unread { .. }
             | Fault::Clock
@@ -131,6 +139,10 @@ impl fmt::Display for Fault {
             ),
             Fault::Silent(silence) => silence.fmt(f),
             Fault::NotDone(failure) => failure.fmt(f),
+            Fault::Forged { name } => writeln!(
+                f,
+                "error: the signature of the Data {name} is wrong; --unverified prints the Data nevertheless"
+            ),
         }
     }
 }

@@ -2,7 +2,7 @@
 
 ghost use Rattle.std.specs.Prelude.{◌≡◌, MatchResult};
 ghost use Rattle.ndn_client.specs.Answer.{IsRefusal};
-ghost use Rattle.ndn_client.specs.Plan.{IsPlan, IsNoPlan, IsRequest, IsSent, IsNotSent, IsPrinted, fault_of_silence, input_form, ports_of, view_of, wait_for, wait_of};
+ghost use Rattle.ndn_client.specs.Plan.{IsPlan, IsNoPlan, IsRequest, IsSent, IsNotSent, IsPrinted, fault_of_silence, input_form, ports_of, unverified_of, view_of, wait_for, wait_of};
 
 use crate::answer::{command_packet, interest_packet, keys_given, text_of};
 use crate::fault::Fault;
@@ -67,6 +67,7 @@ pub fn plan_of(alloc: Global, job: &Job, book: &KeyBook, input: &str) -> Result<
                 from,
                 view: view_of(job),
                 wait: wait_of(job),
+                unverified: unverified_of(job),
                 contents: Vec::new(alloc),
             }))
         }
@@ -123,6 +124,16 @@ fn wait_for(timeout: Option<u32>, lifetime: Option<u64>) -> u64
     match timeout {
         Some(timeout) => u64::from(timeout),
         None => lifetime.unwrap_or(ANSWER_MILLISECONDS),
+    }
+}
+
+/// Returns whether a Data with a wrong signature is printed.
+fn unverified_of(job: &Job) -> bool
+    ensures { result ≡ unverified_of job.now }
+{
+    match job {
+        Job::Ask(job) => job.unverified,
+        _ => false,
     }
 }
 

@@ -92,9 +92,7 @@ where
 fn is_late(done: &Result<(), Fault>) -> bool {
     matches!(
         done,
-        Err(Fault::NotDone(Failure::Silent(
-            Silence::Far | Silence::Late
-        )))
+        Err(Fault::NotDone(Failure::Silent(Silence::Far | Silence::Late)))
     )
 }
 
@@ -148,7 +146,8 @@ fn run_exchange<R: Clock + AllocGlobal + Eprint + Net + Print>(
 /// # Errors
 ///
 /// `NotDone` if a request was not carried out, or if no answer came to a request other than the
-/// packet of `send`. Any other fault says why the exchange was not completed.
+/// packet of `send`. `Forged` if the signature of the answer is wrong. Any other fault says why the
+/// exchange was not completed.
 pub fn exchange_on<R: Clock + AllocGlobal + Eprint + Print>(
     rt: &R,
     socket: &UdpSocket,
@@ -176,12 +175,7 @@ fn asked_job<R: Clock + Env + AllocGlobal + Files>(rt: &R) -> Result<Job, Fault>
     let arguments = arguments_of(rt)?;
     let mut random = [0; RANDOM_OCTETS];
     let count = draw(rt, &mut random);
-    Ok(parse_words(
-        rt.alloc(),
-        now,
-        &random[..count],
-        arguments.as_slice(),
-    )?)
+    Ok(parse_words(rt.alloc(), now, &random[..count], arguments.as_slice())?)
 }
 
 /// Writes octets of the system's random source to the front of the buffer. Returns how many octets
@@ -221,6 +215,12 @@ fn next_answer<R: Clock + AllocGlobal + Eprint + Print>(
             Progress::Done(text, outcome) => {
                 print(rt, &text)?;
                 return Ok(Some(outcome));
+            }
+            Progress::Forged(name) => return Err(Fault::Forged { name }),
+            Progress::Unverified(text, name) => {
+                print(rt, &text)?;
+                let _printed = eprintln!(rt; "warning: the signature of the Data {name} is wrong");
+                return Ok(Some(Ok(())));
             }
             Progress::Ignored => {
                 // The datagram is ignored even if standard error cannot be written.

@@ -184,6 +184,8 @@ peek_app = a_subcommand (codes "peek") (
     ∷ an_option (codes "from")
     ∷ an_option (codes "timeout")
     ∷ an_option (codes "retries")
+    ∷ an_option (codes "keys")
+    ∷ a_flag (codes "unverified")
     ∷ [])
 
 -- ---- the subcommands by name

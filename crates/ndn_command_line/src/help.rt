@@ -32,7 +32,8 @@ status 100; for a list, all its segments; for peek, the Data. Otherwise the exit
   1  if another reply came back
   4  if a Nack came back
   5  if no answer came in time
-  6  if no program listens on the port";
+  6  if no program listens on the port
+  7  for peek, if the signature of the Data is wrong";
 
 pub const INTEREST: &str =
     "With --key, the Interest is signed with HmacWithSha256. A signed Interest always has
@@ -201,6 +202,10 @@ no program listens on the port.
 The client waits for an answer as long as --timeout says. Without --timeout it waits for the time of
 --lifetime, and without both for 4,000 milliseconds. With --retries, after each silence the Interest
 is sent again with a new Nonce, at most N times.
+
+A Data with a wrong DigestSha256 signature is not printed, and the exit status is 7. With --keys, the
+same holds for a wrong HMAC, if the file has its key. With --unverified, such a Data is printed, and
+a warning on standard error. All other signatures are not checked.
 
 ENDPOINT is a port of 127.0.0.1, such as 6363, or an address and a port, such as 192.0.2.1:6363 or
 [2001:db8::1]:6363.

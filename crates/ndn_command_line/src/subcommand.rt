@@ -293,6 +293,8 @@ fn peek_command<'a>(alloc: Global) -> Result<Command<'a>, AllocError>
         Argument::Optional("from", "PORT", help::FROM),
         Argument::Optional("timeout", "MILLISECONDS", help::PEEK_TIMEOUT),
         Argument::Optional("retries", "N", help::RETRIES),
+        Argument::Optional("keys", "FILE", "The key file for checking the signature"),
+        Argument::Flag("unverified", "Also prints a Data with a wrong signature"),
     ];
     let about = "Writes an Interest; with --to, sends it and explains the answer";
     described(alloc, "peek", about, help::PEEK, &arguments)

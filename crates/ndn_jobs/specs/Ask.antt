@@ -11,7 +11,7 @@ use Rattle.ndn_requests.specs.Lists.{list_name}
 use Rattle.ndn_jobs.specs.declared.job.InterestJob.{InterestJob}
 use Rattle.ndn_jobs.specs.declared.job.AskJob.{AskJob}
 use Rattle.ndn_jobs.specs.Value.{IsNumber, IsNonce, IsPeriod}
-use Rattle.ndn_jobs.specs.Options.{value_at, flag_at, Has, MayHave, HasOr, IsFlag, IsPorts}
+use Rattle.ndn_jobs.specs.Options.{value_at, flag_at, Has, MayHave, HasOr, IsFlag, IsPath, IsPorts}
 use Rattle.ndn_jobs.specs.Nonce.{nonce_of}
 
 -- an Interest without a hop limit, parameters or a signature; if no Nonce is given, the Nonce is
@@ -66,6 +66,8 @@ pub record IsListJob (now : ℕ) (seed subcommand : List ℕ) (rows : List Row) 
   pub ports : IsPorts (value_at rows (codes "send")) (value_at rows (codes "from")) job.ports
   pub timeout : MayHave (value_at rows (codes "timeout")) IsPeriod job.timeout
   pub retries : job.retries ≡ 0
+  pub keys : job.keys ≡ None
+  pub unverified : job.unverified ≡ false
 
 -- ---- one Data
 
@@ -84,3 +86,5 @@ pub record IsPeekJob (now : ℕ) (seed : List ℕ) (rows : List Row) (job : AskJ
   pub ports : IsPorts (value_at rows (codes "to")) (value_at rows (codes "from")) job.ports
   pub timeout : MayHave (value_at rows (codes "timeout")) IsPeriod job.timeout
   pub retries : HasOr 0 (value_at rows (codes "retries")) IsNumber job.retries
+  pub keys : MayHave (value_at rows (codes "keys")) IsPath job.keys
+  pub unverified : IsFlag (flag_at rows (codes "unverified")) job.unverified

@@ -16,7 +16,7 @@ key_file_of (Tag job) = Some (string_bytes job.keys)
 key_file_of (Show octets) = None
 key_file_of (Explain job) = option_map string_bytes job.keys
 key_file_of (Send job) = None
-key_file_of (Ask job) = None
+key_file_of (Ask job) = option_map string_bytes job.keys
 
 -- how often the job sends its Interest again if no answer comes in time
 abbrev pub retries_of : Job → ℕ

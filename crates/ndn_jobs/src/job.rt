@@ -173,6 +173,10 @@ pub struct AskJob {
     pub timeout: Option<u32>,
     /// How often the Interest is sent again if no answer comes in time.
     pub retries: u64,
+    /// The path of the key file for checking the signature of the answer, if one is given.
+    pub keys: Option<String>,
+    /// Whether a Data with a wrong signature is printed.
+    pub unverified: bool,
 }
 
 impl Job {
@@ -189,7 +193,8 @@ impl Job {
             Job::Command(job) => job.stamp.key.path(),
             Job::Tag(job) => Some(job.keys.as_str()),
             Job::Explain(job) => path_in(&job.keys),
-            Job::Help(_) | Job::Show(_) | Job::Send(_) | Job::Ask(_) => None,
+            Job::Ask(job) => path_in(&job.keys),
+            Job::Help(_) | Job::Show(_) | Job::Send(_) => None,
         }
     }
 
@@ -519,12 +524,14 @@ impl AskJob {
             ports,
             timeout: options::period(options, "timeout")?,
             retries: 0,
+            keys: None,
+            unverified: false,
         })
     }
 
     /// Returns the job that the options of the subcommand `peek` describe: the Interest, what is
-    /// printed of the answer, the ports, the timeout and the retries. If no Nonce is given, the
-    /// Nonce is computed from the time and `seed`.
+    /// printed of the answer, the ports, the timeout, the retries, the key file, and whether a wrong
+    /// signature matters. If no Nonce is given, the Nonce is computed from the time and `seed`.
     pub fn read_peek(
         alloc: Global,
         options: &ArgMatches<'_>,
@@ -556,6 +563,8 @@ impl AskJob {
             ports,
             timeout: options::period(options, "timeout")?,
             retries: retries.unwrap_or(0),
+            keys: options::path(alloc, options, "keys")?,
+            unverified: options::flag(options, "unverified"),
         })
     }
 }

@@ -10,11 +10,7 @@ use std::io::Write;
 
 /// Returns what a Nonce is computed from, together with a time: the words of a command line, each
 /// with a space before it, and then the random octets.
-pub fn seed_of<S: AsStr>(
-    alloc: Global,
-    random: &[u8],
-    words: &[S],
-) -> Result<Vec<u8>, AllocError>
+pub fn seed_of<S: AsStr>(alloc: Global, random: &[u8], words: &[S]) -> Result<Vec<u8>, AllocError>
     ensures { IfOk result (λ seed. seed.items
         ≡ flat_map (λ word. spaced (S.text word)) words.now ++ random.now) }
 {

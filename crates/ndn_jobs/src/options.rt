@@ -10,8 +10,8 @@ use crate::fault::{ToolFault, Usage};
 use crate::short_form::strategy_uri;
 use crate::token::Token;
 use crate::value::{
-    parse_endpoint, parse_hops, parse_name, parse_nonce, parse_number, parse_octets, parse_packet, parse_period,
-    parse_port, parse_strategy, parse_token,
+    parse_endpoint, parse_hops, parse_name, parse_nonce, parse_number, parse_octets, parse_packet,
+    parse_period, parse_port, parse_strategy, parse_token,
 };
 use clap::ArgMatches;
 use ndn_names::NameBuf;
@@ -155,10 +155,7 @@ pub fn port(options: &ArgMatches<'_>, id: &'static str) -> Result<Option<u16>, T
 }
 
 /// Returns the address and the port that an option spells, or `None` if the option is not given.
-pub fn endpoint(
-    options: &ArgMatches<'_>,
-    id: &'static str,
-) -> Result<Option<SocketAddr>, ToolFault>
+pub fn endpoint(options: &ArgMatches<'_>, id: &'static str) -> Result<Option<SocketAddr>, ToolFault>
     ensures { Reads (MayHave (value_at (rows_in options.now) id.now) IsEndpoint) result }
 {
     match value(options, id) {

@@ -11,13 +11,16 @@ use Rattle.ndn_packets.specs.Packet.{PlainData, PlainFrame, AnInterest, AData, A
 use Rattle.ndn_packets.specs.FrameReading.{frame_at}
 use Rattle.ndn_packets.specs.Reading.{is_nil}
 use Rattle.ndn_packets.specs.Writing.{interest_text, interest_refusal}
+use Rattle.ndn_explain.specs.declared.tag_check.TagCheck.{TagCheck}
+use Rattle.ndn_explain.specs.declared.tag_check.TagCheck.TheVariants.{Wrong}
+use Rattle.ndn_explain.specs.TagCheck.{IsTagCheck}
 use Rattle.ndn_explain.specs.Show.{hex_line}
 use Rattle.ndn_requests.specs.declared.names.NodeList.{NodeList}
 use Rattle.ndn_requests.specs.declared.exchange.View.{View}
 use Rattle.ndn_requests.specs.declared.exchange.View.TheVariants.{Hexadecimal, Content, Table}
 use Rattle.ndn_requests.specs.declared.exchange.Exchange.{Exchange}
 use Rattle.ndn_requests.specs.declared.exchange.Progress.{Progress}
-use Rattle.ndn_requests.specs.declared.exchange.Progress.TheVariants.{Ignored, Next, Done}
+use Rattle.ndn_requests.specs.declared.exchange.Progress.TheVariants.{Ignored, Next, Done, Forged, Unverified}
 use Rattle.ndn_requests.specs.declared.exchange.Turn.{Turn}
 use Rattle.ndn_requests.specs.declared.fault.Silence.{Silence}
 use Rattle.ndn_requests.specs.declared.fault.Silence.TheVariants.{Changed}
@@ -67,13 +70,55 @@ abbrev pub IsDone : List ℕ → Outcome → Progress → Type 0
 IsDone text outcome Ignored = ⊥
 IsDone text outcome Next = ⊥
 IsDone text outcome (Done said o) = (said.items ≡ text) × (o ≡ outcome)
+IsDone text outcome (Forged name) = ⊥
+IsDone text outcome (Unverified said name) = ⊥
+
+-- ---- a Data with a wrong signature
+
+abbrev pub is_wrong : Option TagCheck → Bool
+is_wrong (Some Wrong) = true
+is_wrong check = false
+
+-- the name of a Data if its signature is wrong; None for any other frame
+abbrev pub forged_name : PlainFrame → Option TagCheck → Option (List Field)
+forged_name (AData whole d) check = if is_wrong check then Some d.name else None
+forged_name (AnInterest whole i) check = None
+forged_name (ANack reason whole i) check = None
+forged_name Idle check = None
+
+-- the name of the frame if it is a Data with a wrong signature, otherwise None; a signature is
+-- checked if it is a DigestSha256, or an HMAC with a key of the book
+abbrev pub IsForgedFrame : List NamedKey → PlainFrame → Option (List Field) → Type 0
+IsForgedFrame book frame name =
+    (check : Option TagCheck) × IsTagCheck frame book check × (name ≡ forged_name frame check)
+
+abbrev pub IsForged : List NamedKey → Result PlainFrame PacketFault → Option (List Field) → Type 0
+IsForged book (Ok frame) name = IsForgedFrame book frame name
+IsForged book (Err why) name = name ≡ None
+
+abbrev pub IsForgedEnd : Bool → List ℕ → List Field → Progress → Type 0
+IsForgedEnd unverified text name Ignored = ⊥
+IsForgedEnd unverified text name Next = ⊥
+IsForgedEnd unverified text name (Done said o) = ⊥
+IsForgedEnd unverified text name (Forged own) = (unverified ≡ false) × (own ≡ name)
+IsForgedEnd unverified text name (Unverified said own) =
+    (unverified ≡ true) × (said.items ≡ text) × (own ≡ name)
+
+-- The exchange is over. If the answer is a Data with a wrong signature, whose name is the next to
+-- last argument, then its text is printed only if `unverified` is true. Otherwise the text is
+-- printed, and the request has this outcome.
+abbrev pub IsVerified : Bool → List ℕ → Outcome → Option (List Field) → Progress → Type 0
+IsVerified unverified text outcome None progress = IsDone text outcome progress
+IsVerified unverified text outcome (Some name) progress =
+    IsForgedEnd unverified text name progress
 
 -- ---- an exchange with one answer
 
-abbrev pub IsProgress : View → List ℕ → List ℕ → Option Outcome → Progress → Type 0
-IsProgress view request datagram None progress = progress ≡ Ignored
-IsProgress view request datagram (Some outcome) progress =
-    IsDone (printed view request datagram) outcome progress
+abbrev pub IsProgress : Exchange → List NamedKey → List ℕ → Option Outcome → Progress → Type 0
+IsProgress x book datagram None progress = progress ≡ Ignored
+IsProgress x book datagram (Some outcome) progress =
+    (forged : Option (List Field)) × IsForged book (frame_at datagram) forged
+    × IsVerified x.unverified (printed x.view x.request.items datagram) outcome forged progress
 
 -- ---- an exchange for the segments of a list
 
@@ -87,6 +132,7 @@ IsStepped true old list segment nonce d new progress =
     (progress ≡ Next) × IsRequest (next_name d.name segment) nonce new.request.items
     × (new.contents.items ≡ old.contents.items ++ unwrap_or d.content [])
     × (new.to ≡ old.to) × (new.from ≡ old.from) × (new.view ≡ old.view) × (new.wait ≡ old.wait)
+    × (new.unverified ≡ old.unverified)
 IsStepped false old list segment nonce d new progress =
     IsDone (table list (old.contents.items ++ unwrap_or d.content [])) (Ok tt) progress
 
@@ -146,7 +192,7 @@ IsTakenBy (Table list) old book datagram new progress =
 IsTakenBy view old book datagram new progress =
     (new ≡ old) × (outcome : Option Outcome)
     × IsJudged old.request.items book datagram outcome
-    × IsProgress view old.request.items datagram outcome progress
+    × IsProgress old book datagram outcome progress
 
 -- after this datagram, the exchange is `new`, and the effect of the datagram is `progress`
 abbrev pub IsTaken : Exchange → List NamedKey → List ℕ → Exchange → Progress → Type 0

@@ -10,7 +10,7 @@ silence_text Closed = Some (codes "error: no program listens on this port\n")
 silence_text Far =
     Some (codes "error: no answer came in time; give --from, the port of a Local peer\n")
 silence_text Late =
-    Some (codes "error: no answer came in time, though a program listens on this port\n")
+    Some (codes "error: no answer came in time, though no error showed that this port is closed\n")
 silence_text Changed =
     Some (codes "error: no further segment came; the list may have changed meanwhile; ask again\n")
 

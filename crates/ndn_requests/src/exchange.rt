@@ -2,16 +2,16 @@
 
 ghost use Rattle.std.specs.Prelude.{◌≡◌, ◌+◌, ◌<◌, ◌++◌, ◌^◌, [], IfOk, OnOk, MatchResult, option_map, unwrap_or};
 ghost use Rattle.ndn_names.specs.View.{components};
-ghost use Rattle.ndn_packets.specs.View.{plain_data};
+ghost use Rattle.ndn_packets.specs.View.{plain_data, plain_frame};
 ghost use Rattle.ndn_packets.specs.FrameReading.{frame_at};
 ghost use Rattle.ndn_requests.specs.Lists.{in_turn, next_name, place_of, heading, table};
-ghost use Rattle.ndn_requests.specs.Exchange.{IsRequest, IsNoRequest, content_in, turn_of};
+ghost use Rattle.ndn_requests.specs.Exchange.{IsRequest, IsNoRequest, IsForged, IsForgedFrame, content_in, forged_name, is_wrong, turn_of};
 
 use crate::fault::Silence;
 use crate::names::NodeList;
 use crate::reply::{Outcome, judge, put_explained, silence_of};
 use hmac_keys::KeyBook;
-use ndn_explain::{Layout, hex_line, last_segment, put_entries, segment_of};
+use ndn_explain::{Layout, TagCheck, check_of, hex_line, last_segment, put_entries, segment_of};
 use ndn_names::component_type::SEGMENT;
 use ndn_names::{Name, NameBuf};
 use ndn_packets::{Data, Frame, InterestWriter, WriteFault, read_frame};
@@ -48,6 +48,8 @@ pub struct Exchange {
     pub view: View,
     /// How long to wait for each answer, in milliseconds.
     pub wait: u64,
+    /// Whether a Data with a wrong signature is printed.
+    pub unverified: bool,
     /// The contents of the segments that have been received, joined in order.
     pub contents: Vec<u8>,
 }
@@ -61,6 +63,12 @@ pub enum Progress {
     Next,
     /// The exchange is over. Holds the text to print, and the outcome of the request.
     Done(Vec<u8>, Outcome),
+    /// The exchange is over. The answer is a Data of this name with a wrong signature, and is not
+    /// printed.
+    Forged(NameBuf),
+    /// The exchange is over. The answer is a Data of this name with a wrong signature, and the text
+    /// is printed nevertheless.
+    Unverified(Vec<u8>, NameBuf),
 }
 
 /// The Nonce of a request, and whether the request asks for the first segment of a list.
@@ -80,7 +88,7 @@ impl Exchange {
     ghost use Rattle.ndn_packets.specs.FrameReading.{frame_at};
     ghost use Rattle.ndn_requests.specs.Reply.{Outcome, IsJudged};
     ghost use Rattle.ndn_requests.specs.Lists.{next_name, place_of};
-    ghost use Rattle.ndn_requests.specs.Exchange.{IsTaken, IsNextRefusal, IsSegment, IsListed, IsTurned, IsPlaced, IsProgress, printed, silence_in, turn_of};
+    ghost use Rattle.ndn_requests.specs.Exchange.{IsTaken, IsNextRefusal, IsSegment, IsListed, IsTurned, IsPlaced, IsProgress, IsVerified, printed, silence_in, turn_of};
 
     /// Handles a received datagram. After `Next`, `request` is the request for the next segment of
     /// the list.
@@ -108,11 +116,51 @@ impl Exchange {
     fn answered(&self, alloc: Global, datagram: &[u8], book: &KeyBook) -> Result<Progress, Memory>
         ensures { IfOk result (λ progress. (outcome : Option Outcome)
             × IsJudged self.now.request.items book.now datagram.now outcome
-            × IsProgress self.now.view self.now.request.items datagram.now outcome progress) }
+            × IsProgress self.now book.now datagram.now outcome progress) }
     {
         match judge(alloc, &self.request, datagram, book)? {
             None => Ok(Progress::Ignored),
-            Some(outcome) => Ok(Progress::Done(self.printed(alloc, datagram)?, outcome)),
+            Some(outcome) => self.finished(alloc, datagram, book, outcome),
+        }
+    }
+
+    /// Ends an exchange with one answer. `outcome` is the outcome that the answer `datagram` has if
+    /// its signature is not wrong.
+    fn finished(
+        &self,
+        alloc: Global,
+        datagram: &[u8],
+        book: &KeyBook,
+        outcome: Outcome,
+    ) -> Result<Progress, Memory>
+        ensures { IfOk result (IsProgress self.now book.now datagram.now (Some outcome)) }
+    {
+        let forged = forged_in(alloc, datagram, book)?;
+        self.verified(alloc, datagram, forged, outcome)
+    }
+
+    /// Ends an exchange with one answer. `forged` is the name of the answer if its signature is
+    /// wrong.
+    fn verified(
+        &self,
+        alloc: Global,
+        datagram: &[u8],
+        forged: Option<NameBuf>,
+        outcome: Outcome,
+    ) -> Result<Progress, Memory>
+        ensures { IfOk result (IsVerified self.now.unverified
+            (printed self.now.view self.now.request.items datagram.now) outcome forged) }
+    {
+        match forged {
+            None => Ok(Progress::Done(self.printed(alloc, datagram)?, outcome)),
+            Some(name) => {
+                if self.unverified {
+                    let text = self.printed(alloc, datagram)?;
+                    Ok(Progress::Unverified(text, name))
+                } else {
+                    Ok(Progress::Forged(name))
+                }
+            }
         }
     }
 
@@ -242,6 +290,52 @@ fn put_content(contents: &mut Vec<u8>, content: Option<&[u8]>) -> Result<(), Mem
         contents.extend_from_slice(content)?;
     }
     Ok(())
+}
+
+/// Returns the name of the Data in the datagram if the signature of the Data is wrong. Returns
+/// `None` for any other datagram. A signature is checked if it is a DigestSha256, or an HMAC with a
+/// key of the book.
+fn forged_in(alloc: Global, datagram: &[u8], book: &KeyBook) -> Result<Option<NameBuf>, Memory>
+    ensures { IfOk result (IsForged book.now (frame_at datagram.now)) }
+{
+    match read_frame(datagram) {
+        Ok(frame) => forged_frame(alloc, &frame, book),
+        Err(_) => Ok(None),
+    }
+}
+
+fn forged_frame(alloc: Global, frame: &Frame<'_>, book: &KeyBook) -> Result<Option<NameBuf>, Memory>
+    ensures { IfOk result (IsForgedFrame book.now (plain_frame frame.now)) }
+{
+    let check = check_of(frame, Some(book));
+    let name = forged_name(alloc, frame, check)?;
+    Ok(name)
+}
+
+/// Returns the name of a Data whose signature is wrong, and `None` for any other frame.
+fn forged_name(
+    alloc: Global,
+    frame: &Frame<'_>,
+    check: Option<TagCheck>,
+) -> Result<Option<NameBuf>, Memory>
+    ensures { IfOk result (λ name. name ≡ forged_name (plain_frame frame.now) check) }
+{
+    match frame {
+        Frame::Data(packet) => {
+            if is_wrong(check) {
+                Ok(Some(NameBuf::from_name(alloc, packet.name)?))
+            } else {
+                Ok(None)
+            }
+        }
+        _ => Ok(None),
+    }
+}
+
+fn is_wrong(check: Option<TagCheck>) -> bool
+    ensures { result ≡ is_wrong check }
+{
+    matches!(&check, Some(TagCheck::Wrong))
 }
 
 /// Returns the Content of the Data in the datagram. Returns no octets if the datagram is not a

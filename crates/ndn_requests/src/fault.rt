@@ -42,7 +42,7 @@ impl fmt::Display for Silence {
             ),
             Silence::Late => {
                 f.write_str(
-                    "error: no answer came in time, though a program listens on this port\n",
+                    "error: no answer came in time, though no error showed that this port is closed\n",
                 )
             }
             Silence::Changed => f.write_str(

@@ -18,4 +18,4 @@ pub returns : goal.returns
 returns c =
     let name = c.view.ensures ∙ c.in_ok-name.ensures in
     let less : nat_lt c.args.segment c.args.last ≡ true = lt-ltb _ _ c.if-segment-last.false in
-    rw less (refl, subst (λ (n : List Field). IsRequest n c.args.nonce c.in_ok-self.field-0.items) name c.in_ok-self.ensures, c.in_ok-put_content.ensures, refl, refl, refl, refl)
+    rw less (refl, subst (λ (n : List Field). IsRequest n c.args.nonce c.in_ok-self.field-0.items) name c.in_ok-self.ensures, c.in_ok-put_content.ensures, refl, refl, refl, refl, refl)
