@@ -12,8 +12,8 @@ use std::alloc::Global;
 /// A journal in memory. All its octets are synced octets (`synced`), so the clauses of
 /// `StoredJournal` about synced octets apply to it.
 #[derive(Drop)]
-struct MemoryJournal<'a> {
-    octets: &'a mut Vec<u8>,
+pub struct MemoryJournal<'a> {
+    pub octets: &'a mut Vec<u8>,
 }
 
 impl<'a> JournalFile for MemoryJournal<'a> {

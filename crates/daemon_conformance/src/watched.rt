@@ -1,18 +1,27 @@
 //! Tests of ports that give new rules, and of the first events after a restart.
+ghost use Rattle.std.specs.Prelude.{⊤};
 
 use hmac_keys::KeyBook;
-use ndn_daemon::{Fault, Restart, RuleSource, WatchedPorts};
+use ndn_daemon::{Fault, RuleSource, WatchedPorts};
 use node_core::{RunFault, read_rules};
-use node_ports::{Arrival, FileOctets, MemoryPorts, OwnedArrival, Ports, Renewal};
+use node_ports::{Arrival, FileOctets, MemoryPorts, OwnedArrival, Ports, Renewal, RestartedPorts};
 use std::alloc::Global;
 
 /// A source that gives new rules once.
 #[derive(Drop)]
-struct Once {
-    renewal: Option<Renewal>,
+pub struct Once {
+    pub renewal: Option<Renewal>,
 }
 
 impl RuleSource for Once {
+    ghost renews = { λ _ _ _. ⊤ };
+
+    ghost present = { λ _ _. ⊤ };
+
+    ghost rests = { λ _. tt };
+
+    ghost goes_on = { λ _ _ _ _ _ _ _. tt };
+
     fn renewed(&mut self) -> Option<Renewal> {
         self.renewal.take()
     }
@@ -75,7 +84,7 @@ fn rules_come_first(alloc: Global) -> Option<bool> {
     let source = Once {
         renewal: Some(renewal),
     };
-    let mut ports = WatchedPorts::new(packets_at(alloc, &[999, 1000, 5000])?, source, 0);
+    let mut ports = WatchedPorts::new(packets_at(alloc, &[999, 1000, 5000])?, source);
     Some(
         brings_packet(&mut ports, 999)
             && brings_rules(&mut ports, 1000)
@@ -89,23 +98,25 @@ fn new_rules_come_first(rt: HostRuntime) {
     assert!(rt; rules_come_first(rt.alloc()) == Some(true));
 }
 
-/// Returns whether the first arrivals after a restart are new rules, and then the closing of faces.
-/// All these arrivals must have the last time of the journal.
+/// Returns whether the first arrivals after a restart are its events, in their order, and then a
+/// packet.
 fn restart_comes_first(alloc: Global) -> Option<bool> {
-    let mut closing = Vec::new(alloc);
-    closing.push(7).ok()?;
-    closing.push(9).ok()?;
-    let restart = Restart {
-        now: 40,
-        renewal: Some(no_rules(alloc)?),
-        closing,
-    };
-    let source = Once { renewal: None };
-    let mut ports = WatchedPorts::after(restart, packets_at(alloc, &[50])?, source);
+    let mut first = Vec::new(alloc);
+    let renewal = no_rules(alloc)?;
+    first
+        .push(OwnedArrival::NewRules { renewal, now: 40 })
+        .ok()?;
+    first
+        .push(OwnedArrival::FaceDown { face: 7, now: 40 })
+        .ok()?;
+    first
+        .push(OwnedArrival::FaceDown { face: 9, now: 40 })
+        .ok()?;
+    let mut ports = RestartedPorts::new(first, packets_at(alloc, &[50])?);
     Some(
         brings_rules(&mut ports, 40)
-            && closes(&mut ports, 9, 40)
             && closes(&mut ports, 7, 40)
+            && closes(&mut ports, 9, 40)
             && brings_packet(&mut ports, 50),
     )
 }

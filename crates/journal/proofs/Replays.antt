@@ -10,7 +10,7 @@ use Rattle.std.proofs.lemmas.List.Elements.{All-contains_itself}
 use Rattle.forwarder.specs.Event.{PlainEvent, Send}
 use Rattle.forwarder.specs.Node.{IsStep, NodeState, ChangesCacheOnly}
 use Rattle.forwarder.specs.Policy.{Policy}
-use Rattle.forwarder.specs.Runs.{Run, Start, Then, IsPolicyOf, KeysAreApart, Stands}
+use Rattle.forwarder.specs.Runs.{Run, Start, Then, KeysAreApart}
 use Rattle.forwarder.specs.Verdict.{Answer, verdict_of}
 use Rattle.forwarder.specs.declared.verdict.Verdict.{Verdict}
 use Rattle.node_core.specs.Outcomes.{Outcome, Answered, AreOutcomes, IsEvent, IsOutcome, run_from}
@@ -21,7 +21,7 @@ use Rattle.node_core.proofs.Lists.{Lacks-append}
 use Rattle.node_core.proofs.Outcomes.{AreOutcomes-append}
 use Rattle.node_core.proofs.Playing.{AreLines-append, SpellEvents-append, joined-append}
 use Rattle.node_core.proofs.Outcomes.{goes_on_from}
-use Rattle.journal.specs.Journal.{IsBeginningOf, IsJournalOf, events_of}
+use Rattle.journal.specs.Journal.{IsBeginningOf, events_of}
 use Rattle.journal.specs.Replay.{IsReadFault, Plays, PlaysLine, Replays, RestoresRuns, StopsLine, StopsReplay}
 use Rattle.journal.specs.Text.{IsCutTextOf, IsTextOf}
 use Rattle.journal.specs.declared.replaying.Replayed.{Replayed}

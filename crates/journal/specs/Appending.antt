@@ -1,5 +1,6 @@
 -- The text that is appended to the journal for an event.
-use Rattle.std.specs.Prelude.{◌≡◌, ◌⊎◌, ℕ, List, [], ◌∷◌, ◌++◌, Bool, true, false, Option, None, Some, max, ⊤}
+use Rattle.std.specs.Io.KnownBytes.{Appends}
+use Rattle.std.specs.Prelude.{◌≡◌, ◌⊎◌, ℕ, List, [], ◌∷◌, ◌++◌, Bool, true, false, Option, max}
 use Rattle.forwarder.specs.Event.{PlainEvent, Send, moment}
 use Rattle.forwarder.specs.Node.{NodeState, IsStep}
 use Rattle.forwarder.specs.Verdict.{Verdict}
@@ -41,28 +42,23 @@ IsLineAt time e =
 
 -- If the event is journalled, its line with the time `time` was appended, and the line spells the
 -- event (`IsLineAt`). If the event is not journalled, nothing was appended. If the old content of
--- the journal is not known (None), nothing is stated.
+-- the journal is not known (None), nothing is stated about what was appended.
 abbrev pub Journals : Option (List ℕ) → Option (List ℕ) → ℕ → Coming → Verdict → Type 0
-Journals None new time coming verdict = ⊤
-Journals (Some text) new time coming verdict =
+Journals old new time coming verdict =
     let chosen = is_journalled_entry coming.entry coming.is_wanted verdict in
-    (new ≡ Some (text ++ added_text chosen time coming.entry))
+    Appends old new (added_text chosen time coming.entry)
     × (chosen ≡ true → IsLineAt time coming.entry)
 
--- A prefix of the line of the entry was appended to `text`. The prefix may be empty or the whole
--- line. The line spells the event of the entry (`IsLineAt`).
-pub record CutsLine (text : List ℕ) (new : Option (List ℕ)) (time : ℕ) (e : Entry) : Type 0 where
-  pub front : List ℕ
-  pub back : List ℕ
-  pub is_line : IsLineAt time e
-  pub parts : entry_text time e ≡ front ++ back
-  pub grown : new ≡ Some (text ++ front)
+-- The octets are a prefix of the line of the entry, and the line spells the event of the entry
+-- (`IsLineAt`). The prefix may be the whole line. It is empty if the line could not be made.
+abbrev pub IsFrontOfLine : ℕ → Entry → List ℕ → Type 0
+IsFrontOfLine time e front =
+    (front ≡ []) ⊎ ((back : List ℕ) × IsLineAt time e × (entry_text time e ≡ front ++ back))
 
 -- The event is one that must be journalled, but journalling failed: a prefix of the event's line
--- was appended. The prefix may be empty or the whole line. If the old content of the journal is not
--- known (None), nothing is stated.
+-- was appended. If the old content of the journal is not known (None), nothing is stated about what
+-- was appended.
 abbrev pub FailsToJournal : Option (List ℕ) → Option (List ℕ) → ℕ → Coming → Verdict → Type 0
-FailsToJournal None new time coming verdict = ⊤
-FailsToJournal (Some text) new time coming verdict =
+FailsToJournal old new time coming verdict =
     (is_journalled_entry coming.entry coming.is_wanted verdict ≡ true)
-    × ((new ≡ Some text) ⊎ CutsLine text new time coming.entry)
+    × ((front : List ℕ) × IsFrontOfLine time coming.entry front × Appends old new front)

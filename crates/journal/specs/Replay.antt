@@ -6,7 +6,7 @@ use Rattle.forwarder.specs.Node.{NodeState, ChangesCacheOnly}
 use Rattle.forwarder.specs.Policy.{Policy}
 use Rattle.forwarder.specs.Runs.{Run, Start, IsPolicyOf, IsRun, KeysAreApart, Stands}
 use Rattle.forwarder.specs.Verdict.{Answer}
-use Rattle.node_core.specs.Outcomes.{ExtendsRuns, Outcome, Answered, AreOutcomes}
+use Rattle.node_core.specs.Outcomes.{ExtendsRuns, Answered, AreOutcomes}
 use Rattle.node_core.specs.Script.{AreLines, SpellEvents, ended, joined}
 use Rattle.node_core.specs.Script.Line.{Lacks, IsBadLine}
 use Rattle.journal.specs.declared.replaying.Replayed.{Replayed}

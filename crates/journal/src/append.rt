@@ -1,5 +1,6 @@
-ghost use Rattle.std.specs.Prelude.{◌≡◌, IfErr, IsOk, OnErr, OnOk, false};
+ghost use Rattle.std.specs.Prelude.{◌≡◌, ◌<◌, Err, IfErr, IsOk, OnErr, OnOk, false, length};
 ghost use Rattle.forwarder.specs.Verdict.{verdict_of};
+ghost use Rattle.node_core.specs.Script.Ending.{AppendsFront};
 ghost use Rattle.journal.specs.Appending.{FailsToJournal, IsLineAt, Journals, is_journalled_entry};
 ghost use Rattle.journal.specs.Line.{entry_text, is_change_entry};
 
@@ -44,6 +45,14 @@ pub fn append_event<F: JournalFile>(
         coming.now (verdict_of verdict.now)) }
     ensures failed { OnErr result (FailsToJournal (F.synced file.old) (F.synced file.new) time
         coming.now (verdict_of verdict.now)) }
+    // If the line could not be made, the file is unchanged.
+    ensures unmade { (why : LineFault) → result ≡ Err (AppendFault.Line why)
+        → file.new ≡ file.old }
+    ensures long { result ≡ Err (AppendFault.Line LineFault.TooLong)
+        → 20001 < length (entry_text time coming.now.entry) }
+    ensures cut { result ≡ Err AppendFault.File → IsLineAt time coming.now.entry
+        × AppendsFront (F.synced file.old) (F.synced file.new)
+        (entry_text time coming.now.entry) }
     // If the event need not be journalled, the file is unchanged and the call succeeds.
     ensures silent { is_journalled_entry coming.now.entry coming.now.is_wanted
         (verdict_of verdict.now) ≡ false → IsOk result × (file.new ≡ file.old) }

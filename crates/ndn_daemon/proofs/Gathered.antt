@@ -1,10 +1,10 @@
 -- How buffering or writing a text changes what was written and what is still buffered. What was
 -- written when a turn stops with a fault.
 use Rattle.std.proofs.Common.{◌≡◌, ℕ, ◌<◌, List, [], ◌++◌, refl, sym, ap, subst, ◌∙◌, arith, append_assoc, append-nil}
-use Rattle.std.specs.Prelude.{Option, Result, Ok, Err, IfErr, OnErr, OnOk}
+use Rattle.std.specs.Prelude.{Bool, false, Option, Result, Ok, Err, IfErr, OnErr, OnOk}
 use Rattle.std.specs.Io.KnownBytes.{Appends}
 use Rattle.forwarder.specs.Node.{NodeState}
-use Rattle.node_ports.specs.Serving.{Shown}
+use Rattle.node_ports.specs.Step.{PortStep}
 use Rattle.node_core.specs.Script.Ending.{AppendsFront}
 use Rattle.node_core.specs.declared.script.RunFault.TheVariants.{Write}
 use Rattle.node_core.proofs.Known.{Appends-start, Appends-then, AppendsFront-after}
@@ -45,27 +45,30 @@ AppendsFront-longer a b text more h = (h.0, h.1 ++ more, ap (λ (l : List ℕ). 
 -- Let `number` turns be taken, where `number` is less than `turns`, and let `gathered` be the part
 -- of their text that is not yet written. If the turn after the first `number` turns stops with the
 -- fault `why` (`StopsTurn`), then the sequence of turns stops with `why` (`StopsTurns`).
-pub stops_turns : (old mid new : NodeState) (before between after : Shown) (turns number : ℕ) (a b c : Option (List ℕ)) (text gathered : List ℕ) (why : Fault)
-    → Tells old mid before between number text → Writes a b text gathered → number < turns → StopsTurn mid new between after b c gathered why → StopsTurns old new before after turns a c why
-stops_turns old mid new before between after turns number a b c text gathered Unreceived told writes less h = (
-  between,
+pub stops_turns : (has : Bool) (old mid new : NodeState) (turns number : ℕ) (before turn : List PortStep) (a b c : Option (List ℕ)) (text gathered : List ℕ) (why : Fault)
+    → Tells has old mid number before text → Writes a b text gathered → number < turns → StopsTurn has mid new turn b c gathered why → StopsTurns has old new turns (before ++ turn) a c why
+stops_turns has old mid new turns number before turn a b c text gathered Unreceived told writes less h = (
   number,
+  before,
   text,
-  subst (λ (n : NodeState). Tells old n before between number text) (sym h.0) told,
-  h.1,
+  subst (λ (n : NodeState). Tells has old n number before text) (sym h.0) told,
+  ap (λ (t : List PortStep). before ++ t) h.1,
   less,
   Writes-done a b c text gathered writes h.2,
 )
-stops_turns old mid new before between after turns number a b c text gathered (Script Write) told writes less h = (
+stops_turns has old mid new turns number before turn a b c text gathered (Script Write) told writes less h = (
   number,
+  false,
+  before,
   text,
-  subst (λ (n : NodeState). Tells old n before after number text) (sym h.0) (subst (λ (s : Shown). Tells old mid before s number text) (sym h.1) told),
+  subst (λ (n : NodeState). Tells has old n number before text) (sym h.0) told,
+  ap (λ (t : List PortStep). before ++ t) h.1,
   omega (arith, less),
   Writes-cut a b c text gathered writes h.2,
 )
-stops_turns old mid new before between after turns number a b c text gathered (Journal Unwritten) told writes less h =
-    (mid, between, number, text, told, h.0, less, Writes-cut a b c text gathered writes h.1)
-stops_turns old mid new before between after turns number a b c text gathered why told writes less h = absurd h
+stops_turns has old mid new turns number before turn a b c text gathered (Journal Unwritten) told writes less h =
+    (mid, number, before, turn, text, told, h.0, refl, less, Writes-cut a b c text gathered writes h.1)
+stops_turns has old mid new turns number before turn a b c text gathered why told writes less h = absurd h
 
 -- if `A` holds when `r` is a success, and `A` implies `B`, then `B` holds when `r` is a success
 pub done_then : {A B : Type 0} (r : Result (Unit {0}) Fault) → OnOk r A → (A → B) → OnOk r B

@@ -2,5 +2,7 @@ pub mod Spelling
 pub mod Endpoints
 pub mod Peers
 pub mod Requests
-pub mod Turns
+pub mod Telling
+pub mod Watching
+pub mod Restarting
 pub mod Gathered

@@ -1,12 +1,12 @@
 -- The lines of a log.
-use Rattle.std.specs.Prelude.{◌≡◌, ◌<◌, ◌⊎◌, ℕ, List, Bool, true, false, Result, not, ◌&&◌}
+use Rattle.std.specs.Prelude.{◌≡◌, ◌<◌, ◌⊎◌, ℕ, List, Bool, true, Result, not, ◌&&◌}
 use Rattle.ndn_tlv.specs.declared.memory.Memory.{Memory}
 use Rattle.forwarder.specs.declared.verdict.Verdict.{Verdict}
-use Rattle.node_ports.specs.Ports.{one_more}
+use Rattle.node_ports.specs.Step.{one_more}
 use Rattle.ndn_log.specs.Entry.{is_plain}
 use Rattle.ndn_log.specs.Line.{IsLogged}
 use Rattle.ndn_log.specs.declared.entry.Came.{Came}
-use Rattle.ndn_log.specs.declared.entry.Came.TheVariants.{Packet, Opened, Closed, Tick, NewRules}
+use Rattle.ndn_log.specs.declared.entry.Came.TheVariants.{Closed}
 
 -- whether an event is left out of the log: a plain event is left out, unless all events are shown
 abbrev pub is_left_out : Bool → Came → Result Verdict Memory → Bool

@@ -1,12 +1,10 @@
--- A node that is restored from a journal, and the turns that the node then takes.
-use Rattle.std.specs.Prelude.{◌≡◌, ◌↔◌, ℕ, Bool, IsTrue, List, take, Option, None, Some, IfSome, String, ⊤}
+-- A node that is restored from a journal.
+use Rattle.std.specs.Prelude.{◌≡◌, ◌↔◌, ℕ, Bool, IsTrue, List, take, Option, None, Some, IfSome, ⊤}
 use Rattle.forwarder.specs.Node.{NodeState}
 use Rattle.journal.specs.LastFiles.{HasLastFiles, files_text}
 use Rattle.journal.specs.Replay.{Replays, RestoresRuns}
 use Rattle.journal.specs.declared.replaying.Replayed.{Replayed}
 use Rattle.node_ports.specs.Renewal.{RenewalValue}
-use Rattle.node_ports.specs.Serving.{Shown}
-use Rattle.ndn_daemon.specs.Turn.{ServesTurns}
 
 -- If the journal's octets are known, then `told` is true exactly if the last whole `rules` line in
 -- the journal has the octets of the rule file and of the key file in `renewal`.
@@ -16,10 +14,11 @@ TellsLastRules (Some text) renewal told =
     IsTrue told ↔ HasLastFiles text (files_text renewal.rule_octets renewal.key_octets)
 
 -- If the journal's octets `text` before the replay are known, then the node is restored as
--- `RestoresRuns` states, and the octets `kept` after the replay are the whole lines of `text`.
+-- `RestoresRuns` states, and the octets `kept` after the replay are the whole lines of `text`. If
+-- they are not known, those after the replay are not known either.
 abbrev pub RestoresFrom : Option (List ℕ) → Option (List ℕ) → NodeState → NodeState → Replayed
     → Type 0
-RestoresFrom None kept old new done = ⊤
+RestoresFrom None kept old new done = kept ≡ None
 RestoresFrom (Some text) kept old new done =
     RestoresRuns old new text done × (kept ≡ Some (take done.whole text))
 
@@ -34,27 +33,3 @@ pub record ReplaysJournal (unread kept : Option (List ℕ)) (old new : NodeState
   pub replays : Replays old new read left done
   pub known : IfSome unread (λ text. read ≡ Some text)
   pub restores : RestoresFrom unread kept old new done
-
--- the node took this number of turns at a port, or fewer if the port ended
-abbrev pub TakesItsTurns : ℕ → NodeState → NodeState → Type 0
-TakesItsTurns turns old new = (before after : Shown) × ServesTurns old new before after turns
-
--- A journal with the octets `unread` was replayed on the node. `unread` is None if the octets of
--- the journal are not known. After the replay, the node took its turns at a port. Before the first
--- turn, the journal of the port had exactly the octets that the replay kept.
-pub record TakesLaterTurns (unread : Option (List ℕ)) (turns : ℕ) (old new : NodeState)
-    : Type 0 where
-  pub begun : NodeState
-  pub done : Replayed
-  pub kept : Option (List ℕ)
-  pub replays : ReplaysJournal unread kept old begun done
-  pub before : Shown
-  pub after : Shown
-  pub goes_on : before.journal ≡ kept
-  pub serves : ServesTurns begun new before after turns
-
--- The turns of a node without a journal, or with the journal at this path. The octets of a file of
--- the operating system are not known.
-abbrev pub TakesAllTurns : {Z : Type 0} → Option (String Z) → ℕ → NodeState → NodeState → Type 0
-TakesAllTurns None turns old new = TakesItsTurns turns old new
-TakesAllTurns (Some path) turns old new = TakesLaterTurns None turns old new

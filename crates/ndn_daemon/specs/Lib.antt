@@ -1,5 +1,7 @@
 pub mod Advice
 pub mod EventLog
+pub mod Watched
+pub mod WatchedLaws
 pub mod LoggedPorts
 pub mod Fault
 pub mod Files
@@ -8,4 +10,6 @@ pub mod Options
 pub mod UdpOptions
 pub mod Turn
 pub mod Journal
+pub mod Restart
+pub mod Program
 pub mod Command

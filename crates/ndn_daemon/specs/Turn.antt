@@ -1,5 +1,5 @@
 -- The text of turns, and when it is written.
-use Rattle.std.specs.Prelude.{◌≡◌, ◌⊎◌, ◌<◌, ◌≤◌, ℕ, Bool, Option, List, [], ◌++◌, codes, ⊤}
+use Rattle.std.specs.Prelude.{◌≡◌, ◌⊎◌, ◌+◌, ◌<◌, ◌≤◌, ℕ, Bool, true, false, Option, Result, Ok, Err, List, [], ◌∷◌, ◌++◌, codes, ⊤}
 use Rattle.std.specs.Io.KnownBytes.{Appends}
 use Rattle.std.specs.declared.net.socket_addr.SocketAddr.{SocketAddr}
 use Rattle.std.specs.List.{flat_map}
@@ -12,7 +12,8 @@ use Rattle.forwarder.specs.declared.node.NodeFault.TheVariants.{Memory as NodeMe
 use Rattle.node_core.specs.declared.script.RunFault.TheVariants.{Memory, Node, Write}
 use Rattle.node_core.specs.Event.{Send}
 use Rattle.node_core.specs.Node.{NodeState}
-use Rattle.node_ports.specs.Serving.{Shown, Serves, FailsNext, FailsToWrite, EndsAfter, StopsServing}
+use Rattle.node_ports.specs.Serving.{Serves, ServesAll, FailsToWrite, EndsAfter, StopsServing, end_steps}
+use Rattle.node_ports.specs.Step.{PortStep, FailedNext}
 use Rattle.node_core.specs.Script.Ending.{AppendsFront}
 use Rattle.node_core.specs.Script.Writing.{numbered_line, script_text, send_text, verdict_text}
 use Rattle.node_core.specs.Verdict.{verdict_of}
@@ -31,44 +32,49 @@ turn_text number rules Refused sends =
 turn_text number rules Unwritten sends = []
 turn_text number rules End sends = []
 
--- `events` is the number of events that arrived, and each event had an outcome; `text` is the text
--- of these outcomes, in the format of the answers to a script
-pub record Tells (old new : NodeState) (before after : Shown) (events : ℕ) (text : List ℕ)
-    : Type 0 where
+-- `events` is the number of events that arrived, and each event had an outcome, in these steps;
+-- `text` is the text of these outcomes, in the format of the answers to a script
+pub record Tells (has : Bool) (old new : NodeState) (events : ℕ) (steps : List PortStep)
+    (text : List ℕ) : Type 0 where
   pub refused : ℕ
   pub failed : ℕ
-  pub serves : Serves old new before after events refused failed
+  pub serves : Serves has old new events refused failed steps
   pub text_is : text ≡ script_text old.policy.rules serves.arrivals serves.outcomes
 
 -- Each turn had an event, or the port ended and there were fewer events than turns. If the octets
 -- of the writer are known, the text of all events was appended to these octets.
-abbrev pub TakesTurns : NodeState → NodeState → Shown → Shown → ℕ → Option (List ℕ)
+abbrev pub TakesTurns : Bool → NodeState → NodeState → ℕ → List PortStep → Option (List ℕ)
     → Option (List ℕ) → Type 0
-TakesTurns old new before after turns held holds =
-    (events : ℕ) × (ended : Bool) × (text : List ℕ) × Tells old new before after events text
-    × EndsAfter turns ended events after.coming × Appends held holds text
+TakesTurns has old new turns steps held holds =
+    (events : ℕ) × (ended : Bool) × (before : List PortStep) × (text : List ℕ)
+    × Tells has old new events before text × EndsAfter turns ended events
+    × (steps ≡ before ++ end_steps ended) × Appends held holds text
 
 -- What happened before the fault `why`. `Unreceived`: the text of the earlier events was written,
--- and then the call for the next arrival failed. `Write` and `Memory`: a prefix of the text of the
--- events was written. `Journal`: the last event could not be journalled, and a prefix of the text
--- of the earlier events was written. The octets of the writer are `held` before and `holds`
+-- and then the call for the next arrival failed. `Write`: a prefix of the text of the events was
+-- written. `Memory`: there was no memory for the text of the last event, and the text of the
+-- earlier events was written. `Journal`: the last event could not be journalled, and a prefix of the
+-- text of the earlier events was written. The octets of the writer are `held` before and `holds`
 -- afterwards. If they are not known (None), nothing is stated about what was written.
-abbrev pub StopsTurns : NodeState → NodeState → Shown → Shown → ℕ → Option (List ℕ)
+abbrev pub StopsTurns : Bool → NodeState → NodeState → ℕ → List PortStep → Option (List ℕ)
     → Option (List ℕ) → Fault → Type 0
-StopsTurns old new before after turns held holds Unreceived =
-    (mid : Shown) × (events : ℕ) × (text : List ℕ) × Tells old new before mid events text
-    × FailsNext mid after × (events < turns) × Appends held holds text
-StopsTurns old new before after turns held holds (Script Write) =
-    (events : ℕ) × (text : List ℕ) × Tells old new before after events text × (events ≤ turns)
-    × AppendsFront held holds text
-StopsTurns old new before after turns held holds (Script Memory) =
-    (events : ℕ) × (text : List ℕ) × Tells old new before after events text × (events ≤ turns)
-    × AppendsFront held holds text
-StopsTurns old new before after turns held holds (Journal journal.Unwritten) =
-    (last : NodeState) × (mid : Shown) × (events : ℕ) × (text : List ℕ)
-    × Tells old last before mid events text × FailsToWrite last new mid after × (events < turns)
-    × AppendsFront held holds text
-StopsTurns old new before after turns held holds why = ⊥
+StopsTurns has old new turns steps held holds Unreceived =
+    (events : ℕ) × (before : List PortStep) × (text : List ℕ)
+    × Tells has old new events before text × (steps ≡ before ++ (FailedNext ∷ []))
+    × (events < turns) × Appends held holds text
+StopsTurns has old new turns steps held holds (Script Write) =
+    (events : ℕ) × (ended : Bool) × (before : List PortStep) × (text : List ℕ)
+    × Tells has old new events before text × (steps ≡ before ++ end_steps ended)
+    × (events ≤ turns) × AppendsFront held holds text
+StopsTurns has old new turns steps held holds (Script Memory) =
+    (last : NodeState) × (events : ℕ) × (before turn : List PortStep) × (text line : List ℕ)
+    × Tells has old last events before text × Tells has old new (events + 1) steps (text ++ line)
+    × (steps ≡ before ++ turn) × (events < turns) × Appends held holds text
+StopsTurns has old new turns steps held holds (Journal journal.Unwritten) =
+    (last : NodeState) × (events : ℕ) × (before turn : List PortStep) × (text : List ℕ)
+    × Tells has old last events before text × FailsToWrite has last new turn
+    × (steps ≡ before ++ turn) × (events < turns) × AppendsFront held holds text
+StopsTurns has old new turns steps held holds why = ⊥
 
 -- A prefix of the buffered text `gathered` was written, and `left` is the remaining text. The
 -- octets of the writer are `held` before and `holds` afterwards. If they are not known (None),
@@ -77,26 +83,26 @@ abbrev pub Writes : Option (List ℕ) → Option (List ℕ) → List ℕ → Lis
 Writes held holds gathered left =
     (front : List ℕ) × (gathered ≡ front ++ left) × Appends held holds front
 
--- What happened before the fault `why`. `Unreceived`: the buffered text was written, and then the
--- call for the next arrival failed. `Write`: a prefix of the buffered text was written, and no turn
--- was taken. `Journal`: the event of the turn could not be journalled, and a prefix of the buffered
--- text was written. The octets of the writer are `held` before and `holds` afterwards. If they are
--- not known (None), nothing is stated about what was written.
-abbrev pub StopsTurn : NodeState → NodeState → Shown → Shown → Option (List ℕ) → Option (List ℕ)
-    → List ℕ → Fault → Type 0
-StopsTurn old new before after held holds gathered Unreceived =
-    (new ≡ old) × FailsNext before after × Appends held holds gathered
-StopsTurn old new before after held holds gathered (Script Write) =
-    (new ≡ old) × (after ≡ before) × AppendsFront held holds gathered
-StopsTurn old new before after held holds gathered (Journal journal.Unwritten) =
-    FailsToWrite old new before after × AppendsFront held holds gathered
-StopsTurn old new before after held holds gathered why = ⊥
+-- What happened in a turn before the fault `why`. `Unreceived`: the buffered text was written, and
+-- then the call for the next arrival failed. `Write`: a prefix of the buffered text was written,
+-- and no turn was taken. `Journal`: the event of the turn could not be journalled, and a prefix of
+-- the buffered text was written. The octets of the writer are `held` before and `holds` afterwards.
+-- If they are not known (None), nothing is stated about what was written.
+abbrev pub StopsTurn : Bool → NodeState → NodeState → List PortStep → Option (List ℕ)
+    → Option (List ℕ) → List ℕ → Fault → Type 0
+StopsTurn has old new steps held holds gathered Unreceived =
+    (new ≡ old) × (steps ≡ FailedNext ∷ []) × Appends held holds gathered
+StopsTurn has old new steps held holds gathered (Script Write) =
+    (new ≡ old) × (steps ≡ []) × AppendsFront held holds gathered
+StopsTurn has old new steps held holds gathered (Journal journal.Unwritten) =
+    FailsToWrite has old new steps × AppendsFront held holds gathered
+StopsTurn has old new steps held holds gathered why = ⊥
 
 -- each turn had an event, or the port ended and there were fewer events than turns
-abbrev pub ServesTurns : NodeState → NodeState → Shown → Shown → ℕ → Type 0
-ServesTurns old new before after turns =
-    (events refused failed : ℕ) × (ended : Bool) × Serves old new before after events refused failed
-    × EndsAfter turns ended events after.coming
+abbrev pub ServesTurns : Bool → NodeState → NodeState → ℕ → List PortStep → Type 0
+ServesTurns has old new turns steps =
+    (events refused failed : ℕ) × (ended : Bool)
+    × ServesAll has old new events refused failed ended steps × EndsAfter turns ended events
 
 -- the fault of the program for this `ServeFault`
 abbrev pub fault_of : ServeFault → Fault
@@ -105,9 +111,22 @@ fault_of (serve.Journal events) = Journal journal.Unwritten
 
 -- the node stopped with the fault `why` after zero or more events, but fewer than `turns` events:
 -- the call for the next arrival failed, or the event that arrived could not be journalled
-abbrev pub StopsQuietTurns : NodeState → NodeState → Shown → Shown → ℕ → Fault → Type 0
-StopsQuietTurns old new before after turns why =
-    (stop : ServeFault) × StopsServing old new before after turns stop × (why ≡ fault_of stop)
+abbrev pub StopsQuietTurns : Bool → NodeState → NodeState → ℕ → List PortStep → Fault → Type 0
+StopsQuietTurns has old new turns steps why =
+    (stop : ServeFault) × StopsServing has old new turns steps stop × (why ≡ fault_of stop)
+
+-- How the turns of a node ended, and what they did before: the turns of a node that prints its
+-- answers (`false`), or of a quiet node (`true`), which writes nothing.
+abbrev pub EndsAs : Bool → Bool → NodeState → NodeState → ℕ → List PortStep → Option (List ℕ)
+    → Option (List ℕ) → Result (Unit {0}) Fault → Type 0
+EndsAs false has old new turns steps held holds (Ok done) =
+    TakesTurns has old new turns steps held holds
+EndsAs false has old new turns steps held holds (Err why) =
+    StopsTurns has old new turns steps held holds why
+EndsAs true has old new turns steps held holds (Ok done) =
+    ServesTurns has old new turns steps × (holds ≡ held)
+EndsAs true has old new turns steps held holds (Err why) =
+    StopsQuietTurns has old new turns steps why × (holds ≡ held)
 
 -- why a node that takes its turns on a bound port stops with a fault: no datagram can be received,
 -- an answer cannot be written, memory for printing an answer ran out, or an event could not be

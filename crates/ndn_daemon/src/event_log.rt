@@ -1,7 +1,7 @@
 //! The log of a node on a port: the lines of the log, and where these lines are written.
 ghost use Rattle.std.specs.Prelude.{◌≡◌, ◌↔◌, ◌++◌, ◌-◌, ◌⊎◌, ℕ, List, [], Option, None, true, IsTrue};
 ghost use Rattle.std.specs.Io.KnownBytes.{Appends};
-ghost use Rattle.node_ports.specs.Ports.{one_more};
+ghost use Rattle.node_ports.specs.Step.{one_more};
 ghost use Rattle.ndn_log.specs.Event.{event_words};
 ghost use Rattle.ndn_log.specs.Notes.{closed_words, failed_send_words, stranger_words};
 ghost use Rattle.ndn_daemon.specs.EventLog.{MayLog, SaysCount, closed_with, is_left_out};
@@ -102,6 +102,13 @@ impl<S: LogSink> EventLog<S> {
             strangers: 0,
             counted: 0,
         }
+    }
+
+    /// Returns the destination of the lines. Lines that are not yet written are dropped.
+    pub fn into_sink(self) -> S
+        ensures { result ≡ self.sink }
+    {
+        self.sink
     }
 
     /// Returns whether no lines are waiting to be written.

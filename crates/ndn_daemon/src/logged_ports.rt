@@ -1,16 +1,19 @@
 //! Ports with a log of arrivals and their outcomes.
-ghost use Rattle.std.specs.Prelude.{◌≡◌, ◌∷◌, [], None, length, IfOk, IfSome, OnErr, OnOk};
-ghost use Rattle.node_ports.specs.Ports.{Gives, LiesWithin, Takes, arrived, one_more};
+ghost use Rattle.std.specs.Prelude.{◌≡◌, ◌∷◌, [], None, IfSome, length};
+ghost use Rattle.node_ports.specs.Ports.{LiesWithin, arrived};
+ghost use Rattle.node_ports.specs.Step.{step_of};
 ghost use Rattle.ndn_daemon.specs.LoggedPorts.{IsCameOf, IsOutcomeOf, face_of, seen_in};
 
 use crate::event_log::{EventLog, LogSink};
-use crate::watched_ports::moment_of;
 use info_rules::Rules;
 use journal::{Coming, JournalFile};
 use ndn_log::{Came, Entry};
 use ndn_tlv::Memory;
 use node_core::{Scope, Verdict};
-use node_ports::{Arrival, JournalledPorts, Moments, PortFault, Ports, Turn, UdpPorts};
+use node_ports::{
+    Arrival, JournalledPorts, MemoryPorts, Moments, PortFault, Ports, RestartedPorts, Turn,
+    UdpPorts,
+};
 use std::net::SocketAddr;
 
 /// Ports that know the endpoints of their faces.
@@ -33,6 +36,26 @@ impl<M: Moments> HasEndpoints for UdpPorts<M> {
 }
 
 impl<P: Ports + HasEndpoints + Drop, F: JournalFile + Drop> HasEndpoints for JournalledPorts<P, F> {
+    fn endpoint_of(&self, face: u64) -> Option<SocketAddr> {
+        self.ports().endpoint_of(face)
+    }
+
+    fn strangers(&self) -> u64 {
+        self.ports().strangers()
+    }
+}
+
+impl HasEndpoints for MemoryPorts {
+    fn endpoint_of(&self, _face: u64) -> Option<SocketAddr> {
+        None
+    }
+
+    fn strangers(&self) -> u64 {
+        0
+    }
+}
+
+impl<P: Ports + HasEndpoints + Drop> HasEndpoints for RestartedPorts<P> {
     fn endpoint_of(&self, face: u64) -> Option<SocketAddr> {
         self.ports().endpoint_of(face)
     }
@@ -85,12 +108,14 @@ impl<P: Ports + HasEndpoints + Drop, S: LogSink> LoggedPorts<P, S> {
         }
     }
 
-    /// Appends lines with the counts to the log, and then writes all buffered lines of the log.
-    pub fn finish(&mut self)
-        ensures { self.new.ports ≡ self.old.ports }
+    /// Appends lines with the counts to the log, writes all buffered lines of the log, and returns
+    /// the underlying ports and the destination of the log.
+    pub fn finish(mut self) -> (P, S)
+        ensures { result.0 ≡ self.ports }
     {
         self.log.put_counts_now(self.moment, self.ports.strangers());
         self.log.write_out();
+        (self.ports, self.log.into_sink())
     }
 
     /// Records an arrival.
@@ -103,9 +128,28 @@ impl<P: Ports + HasEndpoints + Drop, S: LogSink> LoggedPorts<P, S> {
             self.opened = face;
             self.endpoint = self.ports.endpoint_of(face);
         }
-        if let Some(moment) = moment_of(arrival) {
+        if let Some(moment) = arrival.moment() {
             self.moment = moment;
         }
+    }
+
+    /// If lines of the log are buffered, returns the arrival that is available soon. If none is, the
+    /// lines are written.
+    fn next_or_write_out(&mut self, buffer: &mut [u8]) -> Option<Arrival>
+        ensures fits { IfSome result (LiesWithin (length buffer.new)) }
+        ensures came { IfSome result (λ arrival. P.does self.old.ports
+            (step_of (length buffer.new) (arrived arrival buffer.new) ∷ []) self.new.ports) }
+        ensures none { result ≡ None → P.does self.old.ports [] self.new.ports }
+    {
+        if self.log.is_empty() {
+            return None;
+        }
+        if let Some(arrival) = self.ports.next_soon(buffer) {
+            self.see(&arrival);
+            return Some(arrival);
+        }
+        self.log.write_out();
+        None
     }
 
     /// Returns the endpoint of a face, or `None` if the endpoint is not known.
@@ -144,21 +188,24 @@ impl<P: Ports + HasEndpoints + Drop, S: LogSink> LoggedPorts<P, S> {
 }
 
 impl<P: Ports + HasEndpoints + Drop, S: LogSink> Ports for LoggedPorts<P, S> {
-    ghost failures = { λ l. P.failures l.ports };
+    // The steps are exactly those of the underlying ports.
+    ghost does = { λ p steps q. P.does p.ports steps q.ports };
 
-    ghost coming = { λ l. P.coming l.ports };
+    ghost has_journal = { λ p. P.has_journal p.ports };
 
-    ghost taken = { λ l. P.taken l.ports };
+    ghost failures = { λ p. P.failures p.ports };
 
-    ghost journal = { λ l. P.journal l.ports };
+    ghost rests = { λ p. P.rests p.ports };
+
+    ghost goes_on = { λ p q r. P.goes_on p.ports q.ports r.ports };
+
+    ghost counts = { λ p q. P.counts p.ports q.ports };
+
+    ghost stays = { λ p q. P.stays p.ports q.ports };
 
     fn next(&mut self, buffer: &mut [u8]) -> Result<Arrival, PortFault> {
-        if !self.log.is_empty() {
-            if let Some(arrival) = self.ports.next_soon(buffer) {
-                self.see(&arrival);
-                return Ok(arrival);
-            }
-            self.log.write_out();
+        if let Some(arrival) = self.next_or_write_out(buffer) {
+            return Ok(arrival);
         }
         let arrival = self.ports.next(buffer)?;
         self.see(&arrival);

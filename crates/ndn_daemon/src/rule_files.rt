@@ -121,6 +121,17 @@ impl<'a, R: AllocGlobal + Files> RuleFiles<'a, R> {
 }
 
 impl<'a, R: AllocGlobal + Eprint + Files> RuleSource for RuleFiles<'a, R> {
+    ghost use Rattle.std.specs.Prelude.{⊤};
+
+    // What files have is not known to the contracts.
+    ghost renews = { λ _ _ _. ⊤ };
+
+    ghost present = { λ _ _. ⊤ };
+
+    ghost rests = { λ _. tt };
+
+    ghost goes_on = { λ _ _ _ _ _ _ _. tt };
+
     /// Reads the rules and the keys if a file has changed. A fault in a file is reported on
     /// standard error.
     fn renewed(&mut self) -> Option<Renewal> {

@@ -1,12 +1,16 @@
 //! Ports whose arrivals include new rules and keys.
-ghost use Rattle.std.specs.Prelude.{◌≡◌, ◌∷◌, [], None, length, IfOk, IfSome, OnErr, OnOk};
-ghost use Rattle.node_ports.specs.Ports.{Gives, LiesWithin, Takes, arrived, one_more};
+ghost use Rattle.std.specs.Prelude.{◌≡◌, ◌∷◌, ◌++◌, [], List, None, Some, IfOk, IfSome, length};
+ghost use Rattle.forwarder.specs.Event.{PlainEvent};
+ghost use Rattle.node_ports.specs.Ports.{LiesWithin, arrived};
+ghost use Rattle.node_ports.specs.Renewal.{RenewalValue};
+ghost use Rattle.ndn_daemon.specs.Watched.{IsRenewed};
 
 use crate::fault::Fault;
 use crate::logged_ports::HasEndpoints;
+use info_rules::Rules;
 use journal::Coming;
 use node_core::Verdict;
-use node_ports::{Arrival, FRAME_ROOM, PortFault, Ports, Renewal};
+use node_ports::{Arrival, HeldArrival, PortFault, Ports, Renewal, Turn};
 use std::net::SocketAddr;
 
 /// The least time, in milliseconds, between two checks of the source of rules.
@@ -14,26 +18,30 @@ const LOOK_MILLISECONDS: u64 = 1000;
 
 /// A source of new rules and keys.
 pub trait RuleSource: Drop {
+    // `renews before made after`: from the state `before`, the source made these new rules and
+    // keys, in this order, and is then in the state `after`. Of files, nothing is known.
+    ghost renews: { Self → List RenewalValue → Self → Type 0 };
+
+    // The source has these rules and keys now.
+    ghost present: { Self → RenewalValue → Type 0 };
+
     /// Returns new rules and keys, with which the caller replaces the rules and keys in force.
     /// Returns `None` if nothing is new, or if the new rules and keys cannot be read.
-    fn renewed(&mut self) -> Option<Renewal>;
+    fn renewed(&mut self) -> Option<Renewal>
+        ensures made { IfSome result (λ renewal. renews self.old (renewal ∷ []) self.new) }
+        ensures none { result ≡ None → renews self.old [] self.new };
 
     /// Returns the present rules and keys of the source. Only a node with a journal makes this
     /// call, once at its start.
-    fn current(&mut self) -> Result<Renewal, Fault>;
-}
+    fn current(&mut self) -> Result<Renewal, Fault>
+        ensures current { IfOk result (λ renewal. present self.old renewal) }
+        ensures none { renews self.old [] self.new };
 
-/// The first events of a node after it has replayed a journal.
-#[derive(Drop)]
-pub struct Restart {
-    /// The time of the node after the replay, which is also the time of these events.
-    pub now: u64,
-    /// The present rules and keys of the source, or `None` if they are the last rules and keys in
-    /// the journal.
-    pub renewal: Option<Renewal>,
-    /// The open faces that are to be closed. A face is to be closed unless it has both the number
-    /// and the scope of a peer's face.
-    pub closing: Vec<u64>,
+    // A source that was not asked made nothing.
+    ghost rests: { (s : Self) → renews s [] s };
+
+    ghost goes_on: { (s t u : Self) (a b : List RenewalValue) → renews s a t → renews t b u
+        → renews s (a ++ b) u };
 }
 
 /// Ports with a source of rules. When something has arrived at the underlying ports, the source is
@@ -46,61 +54,40 @@ pub struct WatchedPorts<P: Ports + Drop, S: RuleSource> {
     source: S,
     // The time when the source was last checked, or 0 if it has not been checked.
     asked: u64,
-    // `held` is the arrival that waits for the next turn. If this arrival is a packet, `octets`
-    // begins with the octets of the packet.
-    held: Option<Arrival>,
-    octets: [u8; FRAME_ROOM],
-    restart: Option<Restart>,
+    held: HeldArrival,
 }
 
 impl<P: Ports + Drop, S: RuleSource> WatchedPorts<P, S> {
-    /// Returns these ports with a source of rules that was last checked at the time `asked`.
-    pub fn new(ports: P, source: S, asked: u64) -> WatchedPorts<P, S>
-        ensures { result.ports ≡ ports }
-    {
-        WatchedPorts {
-            ports,
-            source,
-            asked,
-            held: None,
-            octets: [0; FRAME_ROOM],
-            restart: None,
-        }
-    }
-
-    /// Returns these ports with a source of rules that has not been checked. The events of
-    /// `restart` come before the arrivals of `ports`.
-    pub fn after(restart: Restart, ports: P, source: S) -> WatchedPorts<P, S>
-        ensures { result.ports ≡ ports }
+    /// Returns these ports with a source of rules that has not been checked.
+    pub fn new(ports: P, source: S) -> WatchedPorts<P, S>
+        ensures ports { result.ports ≡ ports }
+        ensures source { result.source ≡ source }
+        ensures held { result.held ≡ None }
     {
         WatchedPorts {
             ports,
             source,
             asked: 0,
-            held: None,
-            octets: [0; FRAME_ROOM],
-            restart: Some(restart),
+            held: HeldArrival::none(),
         }
     }
 
-    /// Returns the next event of the restart, or `None` if no event of the restart is left.
-    fn first(&mut self) -> Option<Arrival>
-        ensures ports { self.new.ports ≡ self.old.ports }
-        ensures fits { IfSome result (LiesWithin 0) }
+    /// Returns the underlying ports and the source.
+    pub fn into_parts(self) -> (P, S)
+        ensures ports { result.0 ≡ self.ports }
+        ensures source { result.1 ≡ self.source }
     {
-        let restart = self.restart.as_mut()?;
-        let now = restart.now;
-        if let Some(renewal) = restart.renewal.take() {
-            return Some(Arrival::NewRules { renewal, now });
-        }
-        let face = restart.closing.pop()?;
-        Some(Arrival::FaceDown { face, now })
+        (self.ports, self.source)
     }
 
     /// Checks the source, and returns the new rules and keys that the source gives, if any. If the
     /// last check was less than a second away from the time `now`, does nothing and returns `None`.
     fn renewed(&mut self, now: u64) -> Option<Renewal>
-        ensures { self.new.ports ≡ self.old.ports }
+        ensures made { IfSome result (λ renewal.
+            S.renews self.old.source (renewal ∷ []) self.new.source) }
+        ensures none { result ≡ None → S.renews self.old.source [] self.new.source }
+        ensures ports { self.new.ports ≡ self.old.ports }
+        ensures held { self.new.held ≡ self.old.held }
     {
         if now.abs_diff(self.asked) < LOOK_MILLISECONDS {
             return None;
@@ -109,81 +96,71 @@ impl<P: Ports + Drop, S: RuleSource> WatchedPorts<P, S> {
         self.source.renewed()
     }
 
-    /// Stores an arrival for the next turn.
-    fn hold(&mut self, arrival: Arrival, buffer: &[u8])
-        requires { LiesWithin (length buffer.now) arrival }
-        ensures { self.new.ports ≡ self.old.ports }
-    {
-        if let Arrival::Packet { len, .. } = &arrival {
-            let len = (*len).min(FRAME_ROOM);
-            self.octets[..len].copy_from_slice(&buffer[..len]);
-        }
-        self.held = Some(arrival);
-    }
-
-    /// If a check of the source gives new rules and keys, returns them and stores the arrival for
+    /// If a check of the source gives new rules and keys, returns them and keeps the arrival for
     /// the next turn. Otherwise returns the arrival.
     fn renewed_first(&mut self, arrival: Arrival, buffer: &[u8]) -> Arrival
-        requires { LiesWithin (length buffer.now) arrival }
-        ensures ports { self.new.ports ≡ self.old.ports }
+        requires fits { LiesWithin (length buffer.now) arrival }
+        requires none { self.old.held ≡ None }
         ensures fits { LiesWithin (length buffer.now) result }
+        ensures ports { self.new.ports ≡ self.old.ports }
+        ensures ended { arrived arrival buffer.now ≡ None → (arrived result buffer.now ≡ None)
+            × S.renews self.old.source [] self.new.source × (self.new.held ≡ None) }
+        ensures renewed { (came : PlainEvent) → arrived arrival buffer.now ≡ Some came
+            → (given : PlainEvent) × (arrived result buffer.now ≡ Some given)
+            × IsRenewed S.renews self.old.source came given self.new.source self.new.held }
     {
-        let Some(now) = moment_of(&arrival) else {
+        let Some(now) = arrival.moment() else {
             return arrival;
         };
         let Some(renewal) = self.renewed(now) else {
             return arrival;
         };
-        self.hold(arrival, buffer);
+        self.held.keep(arrival, buffer);
         Arrival::NewRules { renewal, now }
-    }
-
-    /// Returns the stored arrival `arrival`. If it is a packet, copies the octets of the packet to
-    /// the start of `buffer`. Octets that do not fit into `buffer` are dropped.
-    fn give_held(&self, arrival: Arrival, buffer: &mut [u8]) -> Arrival
-        ensures { LiesWithin (length buffer.new) result }
-    {
-        match arrival {
-            Arrival::Packet { face, now, len } => {
-                let len = len.min(FRAME_ROOM).min(buffer.len());
-                buffer[..len].copy_from_slice(&self.octets[..len]);
-                Arrival::Packet { face, now, len }
-            }
-            other => other,
-        }
     }
 }
 
 impl<P: Ports + Drop, S: RuleSource> Ports for WatchedPorts<P, S> {
-    ghost failures = { λ w. P.failures w.ports };
+    ghost use Rattle.std.proofs.Common.{refl};
+    ghost use Rattle.ndn_daemon.specs.Watched.{AreDoneWatched};
+    ghost use Rattle.ndn_daemon.specs.WatchedLaws.{watched_counts, watched_goes_on, watched_stays};
 
-    // The events to come are not known, since new rules may come in any turn.
-    ghost coming = { λ w. None };
+    ghost does = { λ p steps q. AreDoneWatched P.does S.renews p.ports p.source p.held steps q.ports
+        q.source q.held };
 
-    ghost taken = { λ w. P.taken w.ports };
+    ghost has_journal = { λ p. P.has_journal p.ports };
 
-    ghost journal = { λ w. P.journal w.ports };
+    ghost failures = { λ p. P.failures p.ports };
+
+    ghost rests = { λ p. (P.rests p.ports, S.rests p.source, refl) };
+
+    ghost goes_on = { λ p q r a b. watched_goes_on P.does S.renews P.goes_on S.goes_on p.ports
+        q.ports r.ports p.source q.source r.source p.held q.held r.held a b };
+
+    ghost counts = { λ p q steps. watched_counts P.does S.renews P.failures P.counts p.ports q.ports
+        p.source q.source p.held q.held steps };
+
+    ghost stays = { λ p q steps. watched_stays P.does S.renews P.has_journal P.stays p.ports q.ports
+        p.source q.source p.held q.held steps };
 
     fn next(&mut self, buffer: &mut [u8]) -> Result<Arrival, PortFault> {
-        if let Some(arrival) = self.first() {
+        if let Some(arrival) = self.held.take(buffer) {
             return Ok(arrival);
         }
-        if let Some(arrival) = self.held.take() {
-            return Ok(self.give_held(arrival, buffer));
+        match self.ports.next(buffer) {
+            Ok(arrival) => Ok(self.renewed_first(arrival, buffer)),
+            Err(fault) => Err(fault),
         }
-        let arrival = self.ports.next(buffer)?;
-        Ok(self.renewed_first(arrival, buffer))
     }
 
     fn next_soon(&mut self, buffer: &mut [u8]) -> Option<Arrival> {
-        if let Some(arrival) = self.first() {
+        if let Some(arrival) = self.held.take(buffer) {
             return Some(arrival);
         }
-        if let Some(arrival) = self.held.take() {
-            return Some(self.give_held(arrival, buffer));
+        match self.ports.next_soon(buffer) {
+            Some(arrival) => Some(self.renewed_first(arrival, buffer)),
+            None => None,
         }
-        let arrival = self.ports.next_soon(buffer)?;
-        Some(self.renewed_first(arrival, buffer))
     }
 
     fn keeps_journal(&self) -> bool {
@@ -203,6 +180,10 @@ impl<P: Ports + Drop, S: RuleSource> Ports for WatchedPorts<P, S> {
         self.ports.send(face, octets)
     }
 
+    fn note(&mut self, turn: &Turn, octets: &[u8], rules: &Rules) {
+        self.ports.note(turn, octets, rules)
+    }
+
     fn failures(&self) -> u64 {
         self.ports.failures()
     }
@@ -215,17 +196,5 @@ impl<P: Ports + HasEndpoints + Drop, S: RuleSource> HasEndpoints for WatchedPort
 
     fn strangers(&self) -> u64 {
         self.ports.strangers()
-    }
-}
-
-/// Returns the time of an arrival, or `None` for the arrival `End`.
-pub fn moment_of(arrival: &Arrival) -> Option<u64> {
-    match arrival {
-        Arrival::End => None,
-        Arrival::Packet { now, .. }
-        | Arrival::FaceUp { now, .. }
-        | Arrival::FaceDown { now, .. }
-        | Arrival::Tick { now }
-        | Arrival::NewRules { now, .. } => Some(*now),
     }
 }

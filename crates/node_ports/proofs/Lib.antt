@@ -1,4 +1,5 @@
 pub mod Turns
+pub mod Wrapped
 pub mod Meeting
 pub mod Heard
 pub mod Silent

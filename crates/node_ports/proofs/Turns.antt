@@ -1,274 +1,67 @@
 -- Consecutive turns at a port.
-use Rattle.std.proofs.Common.{◌≡◌, ℕ, zero, suc, ◌+◌, ◌-◌, ◌^◌, ◌<◌, inl, inr, List, [], ◌∷◌, ◌++◌, length, map, take, refl, sym, ap, ◌∙◌, subst, arith, add-one, add-zero, append_assoc, append-nil, length-append, zero-add}
-use Rattle.std.specs.Prelude.{◌⊎◌, Bool, Option, Some, None, slice_get, true, false, Result, Ok, Err, OnOk, OnErr, IsOk, max, min}
+use Rattle.std.proofs.Common.{◌≡◌, ℕ, zero, suc, ◌+◌, ◌-◌, ◌^◌, inl, inr, List, [], ◌∷◌, ◌++◌, take, refl, sym, ap, ◌∙◌, subst, arith, add-one, add-zero, append_assoc, append-nil, length-append, zero-add}
+use Rattle.std.specs.Prelude.{Bool, Some, slice_get, true, false, Result, Ok, Err, OnOk, OnErr, IsOk, max, min}
 use Rattle.std.specs.Result.{is_err}
-use Rattle.std.proofs.lemmas.List.{map-append}
 use Rattle.forwarder.specs.Event.{PlainEvent, Send, moment}
-use Rattle.forwarder.specs.Policy.{Policy, at_moment}
-use Rattle.forwarder.specs.Runs.{Run, Then, Stands}
+use Rattle.forwarder.specs.Policy.{at_moment}
+use Rattle.forwarder.specs.Runs.{Run, Then}
 use Rattle.forwarder.specs.Wanted.{brings_wanted}
 use Rattle.journal.specs.declared.append.Coming.{Coming}
-use Rattle.journal.specs.Appending.{CutsLine, FailsToJournal, IsLineAt, Journals, Steps, added_text, is_journalled_entry}
-use Rattle.journal.specs.Journal.{IsJournalOf}
-use Rattle.journal.specs.Line.{IsEventOf}
+use Rattle.journal.specs.declared.line.Entry.{Entry}
+use Rattle.journal.specs.Appending.{IsFrontOfLine, IsLineAt, Steps}
+use Rattle.journal.specs.Journal.{IsJournalOf, with_event, with_moment}
+use Rattle.journal.specs.Journalled.{is_journalled_by}
+use Rattle.journal.specs.Line.{IsEventOf, entry_text}
 use Rattle.journal.specs.Text.{IsTextOf}
-use Rattle.journal.proofs.JournalSteps.{both_grow, steps_by}
+use Rattle.journal.proofs.JournalSteps.{both_grow, by_entry}
+use Rattle.journal.proofs.LineTexts.{moved_entry}
 use Rattle.ndn_tlv.specs.declared.memory.Memory.{Memory}
 use Rattle.node_ports.specs.declared.ports.TheConstants.{FRAME_ROOM}
 use Rattle.forwarder.specs.declared.verdict.Verdict.{Verdict}
 use Rattle.forwarder.specs.Node.{NodeState, IsStep, ChangesCacheOnly, AsksNoMemory}
 use Rattle.forwarder.specs.Verdict.{Answer, Verdict as PlainVerdict, verdict_of}
 use Rattle.node_core.specs.Outcomes.{ExtendsRuns, Outcome, Answered, NoMemory, IsEvent, IsOutcome, AreOutcomes, run_from}
-use Rattle.node_ports.specs.Ports.{Gives, Takes, count_of, cut_to, one_more}
-use Rattle.node_ports.specs.Serving.{Shown, HasEnded, GivesAll, AreSendsTaken, count_after, sends_of, all_sends, refused_count, HasFront, KeepsJournal, Handles, EndsNext, Serves}
+use Rattle.node_ports.specs.Step.{PortStep, Got, Wrote, Gave, FailedSend, count_of, is_committed, is_written, journalled, line_steps}
+use Rattle.node_ports.specs.Serving.{AreSent, AreTurnSteps, AreTurns, GrowsJournal, Handles, IsFront, IsLineOf, Journals, Serves, has_line, refused_count}
+use Rattle.node_ports.specs.Laws.{journalled-append}
 use Rattle.node_core.proofs.Outcomes.{AreOutcomes-append, goes_on_from}
 
--- ---- the packets that were accepted
+-- ---- the packets that were sent
 
-pub AreSendsTaken-append : (a b : List Send) (m n : ℕ) (x y : List Send) → AreSendsTaken a m x → AreSendsTaken b n y → AreSendsTaken (a ++ b) (m + n) (x ++ y)
-AreSendsTaken-append [] b m n x y h k =
+pub AreSent-append : (a b : List Send) (m n : ℕ) (x y : List PortStep) → AreSent a m x → AreSent b n y → AreSent (a ++ b) (m + n) (x ++ y)
+AreSent-append [] b m n x y h k =
     let e : m + n ≡ n = omega (arith, h.0) in
-    let f : x ++ y ≡ y = ap (λ (t : List Send). t ++ y) h.1 in
+    let f : x ++ y ≡ y = ap (λ (t : List PortStep). t ++ y) h.1 in
     rw (e, f) k
-AreSendsTaken-append (s ∷ a) b m n x y (inl h) k =
-    inl (h.0 ++ y, ap (λ (t : List Send). t ++ y) h.1, AreSendsTaken-append a b m n h.0 y h.2 k)
-AreSendsTaken-append (s ∷ a) b m n x y (inr h) k =
-    inr (h.0 + n, omega (arith, h.1), AreSendsTaken-append a b h.0 n x y h.2 k)
+AreSent-append (s ∷ a) b m n x y (inl h) k =
+    inl (h.0 ++ y, ap (λ (t : List PortStep). t ++ y) h.1, AreSent-append a b m n h.0 y h.2 k)
+AreSent-append (s ∷ a) b m n x y (inr h) k =
+    inr (h.0 + n, h.1 ++ y, omega (arith, h.2), ap (λ (t : List PortStep). t ++ y) h.3, AreSent-append a b h.0 n h.1 y h.4 k)
 
-pub AreSendsTaken-one : (sent : Send) → AreSendsTaken (sent ∷ []) 0 (sent ∷ [])
-AreSendsTaken-one sent = inl ([], refl, (refl, refl))
+pub sent_one : (sent : Send) → AreSent (sent ∷ []) 0 (Gave sent ∷ [])
+sent_one sent = inl ([], refl, (refl, refl))
 
-pub AreSendsTaken-failed : (sent : Send) → AreSendsTaken (sent ∷ []) 1 []
-AreSendsTaken-failed sent = inr (0, refl, (refl, refl))
+pub failed_one : (sent : Send) → AreSent (sent ∷ []) 1 (FailedSend sent ∷ [])
+failed_one sent = inr (0, [], omega arith, refl, (refl, refl))
 
-pub Takes-same : (old new : Option (List Send)) → new ≡ old → Takes old new []
-Takes-same None new e = e
-Takes-same (Some xs) new e = e ∙ ap (λ (t : List Send). Some t) (sym (append-nil xs))
-
-pub Takes-then : (a b c : Option (List Send)) (x y : List Send) → Takes a b x → Takes b c y → Takes a c (x ++ y)
-Takes-then None b c x y h k = let t : Takes None c y = subst (λ (o : Option (List Send)). Takes o c y) h k in t
-Takes-then (Some xs) b c x y h k =
-    let t : Takes (Some (xs ++ x)) c y = subst (λ (o : Option (List Send)). Takes o c y) h k in
-    t ∙ ap (λ (l : List Send). Some l) (append_assoc xs x y)
-
--- ---- counting failures
-
-pub count_after-add : (n a b : ℕ) → count_after (count_after n a) b ≡ count_after n (a + b)
-count_after-add n a zero = let e : a + 0 ≡ a = omega arith in rw e refl
-count_after-add n a (suc b) = let e : a + suc b ≡ suc (a + b) = omega arith in rw e (ap one_more (count_after-add n a b))
-
-pub count_after-one : (n a : ℕ) → one_more (count_after n a) ≡ count_after n (a + 1)
-count_after-one n a = rw (add-one a) refl
-
--- ---- the events that arrived
-
-pub GivesAll-none : (coming left : Option (List PlainEvent)) (size : ℕ) → left ≡ coming → GivesAll coming left size []
-GivesAll-none None left size e = e
-GivesAll-none (Some old) left size e = ([], old, refl, refl, e)
-
-one_given : (came left : List PlainEvent) (old : List PlainEvent) (new : Option (List PlainEvent)) (size : ℕ) (events : List PlainEvent) (event : PlainEvent)
-    → old ≡ came ++ left → events ≡ map (cut_to size) came → Gives (Some left) new size (Some event) → GivesAll (Some old) new size (events ++ (event ∷ []))
-one_given came [] old new size events event is cut h = let no : Some event ≡ None = h.0 in absurd cc
-one_given came (first ∷ rest) old new size events event is cut h =
-    let same : event ≡ cut_to size first = cc h.0 in (
-      came ++ (first ∷ []),
-      rest,
-      is ∙ sym (append_assoc came (first ∷ []) rest),
-      ap (λ (t : List PlainEvent). t ++ (event ∷ [])) cut
-          ∙ ap (λ (e : PlainEvent). map (cut_to size) came ++ (e ∷ [])) same
-          ∙ sym (map-append (cut_to size) came (first ∷ [])),
-      h.1,
-    )
-
-pub GivesAll-then : (a b c : Option (List PlainEvent)) (size : ℕ) (events : List PlainEvent) (event : PlainEvent) → GivesAll a b size events → Gives b c size (Some event)
-    → GivesAll a c size (events ++ (event ∷ []))
-GivesAll-then None b c size events event h k =
-    let t : Gives None c size (Some event) = subst (λ (o : Option (List PlainEvent)). Gives o c size (Some event)) h k in t
-GivesAll-then (Some old) b c size events event h k =
-    let t : Gives (Some h.1) c size (Some event) = subst (λ (o : Option (List PlainEvent)). Gives o c size (Some event)) h.4 k in
-    one_given h.0 h.1 old c size events event h.2 h.3 t
-
-pub Gives-none_left : (old new : Option (List PlainEvent)) (size : ℕ) → Gives old new size None → HasEnded new
-Gives-none_left None new size h = subst HasEnded (sym h) tt
-Gives-none_left (Some []) new size h = subst HasEnded (sym h.1) refl
-Gives-none_left (Some (first ∷ rest)) new size h = absurd cc
-
-pub Gives-none_same : (old new : Option (List PlainEvent)) (size : ℕ) → Gives old new size None → new ≡ old
-Gives-none_same None new size h = h
-Gives-none_same (Some []) new size h = h.1
-Gives-none_same (Some (first ∷ rest)) new size h = absurd cc
-
--- ---- the outcomes of successive turns
-
-pub all_sends-append : (a b : List Outcome) → all_sends (a ++ b) ≡ all_sends a ++ all_sends b
-all_sends-append [] b = refl
-all_sends-append (o ∷ a) b = ap (λ (t : List Send). sends_of o ++ t) (all_sends-append a b) ∙ sym (append_assoc (sends_of o) (all_sends a) (all_sends b))
-
-pub refused_count-append : (a b : List Outcome) → refused_count (a ++ b) ≡ refused_count a + refused_count b
-refused_count-append [] b = sym (zero-add _)
-refused_count-append (Answered answer ∷ a) b = refused_count-append a b
-refused_count-append (NoMemory ∷ a) b = let e = refused_count-append a b in omega (arith, e)
-
--- ---- the journals of successive turns
-
-pub run_from-append : (old mid : NodeState) (past : Run) (es fs : List PlainEvent) (rs ss : List Outcome) → AreOutcomes old es rs mid
-    → run_from past (es ++ fs) (rs ++ ss) ≡ run_from (run_from past es rs) fs ss
-run_from-append old mid past [] fs [] ss h = refl
-run_from-append old mid past [] fs (r ∷ rs) ss h = absurd h
-run_from-append old mid past (e ∷ es) fs [] ss h = absurd h
-run_from-append old mid past (e ∷ es) fs (Answered answer ∷ rs) ss h = run_from-append h.0 mid (Then past e answer) es fs rs ss h.2
-run_from-append old mid past (e ∷ es) fs (NoMemory ∷ rs) ss h = run_from-append h.0 mid past es fs rs ss h.2
-
-pub KeepsJournal-none : (node : NodeState) (before : Option (List ℕ)) → KeepsJournal node before [] [] before
-KeepsJournal-none node before = λ first past journal text begins run stands is lines known. (journal, text, is, lines, known)
-
-pub KeepsJournal-refused : (old : NodeState) (before after : Option (List ℕ)) (event : PlainEvent) → after ≡ before → KeepsJournal old before (event ∷ []) (NoMemory ∷ []) after
-KeepsJournal-refused old before after event same = λ first past journal text begins run stands is lines known. (journal, text, is, lines, same ∙ known)
-
-pub KeepsJournal-then : (old mid : NodeState) (a b c : Option (List ℕ)) (es fs : List PlainEvent) (rs ss : List Outcome) → AreOutcomes old es rs mid → ExtendsRuns old es rs mid → KeepsJournal old a es rs b
-    → KeepsJournal mid b fs ss c → KeepsJournal old a (es ++ fs) (rs ++ ss) c
-KeepsJournal-then old mid a b c es fs rs ss outcomes goes_on h k = λ first past journal text begins run stands is lines known.
-    let on = goes_on first past begins run stands in
-    let one = h first past journal text begins run stands is lines known in
-    let two = k first (run_from past es rs) one.0 one.1 begins on.0 on.1 one.2 one.3 one.4 in
-    (two.0, two.1, subst (λ (r : Run). IsJournalOf first r two.0) (sym (run_from-append old mid past es fs rs ss outcomes)) two.2, two.3, two.4)
-
--- what is appended to the journal for an event that was answered
-module _ (old new : NodeState) (event : PlainEvent) (v : PlainVerdict) (sends : List Send) (coming : Coming) (time : ℕ) (before after : Option (List ℕ)) (is : IsEventOf (moment event) coming.entry event)
-    (at : time ≡ max old.policy.now (moment event)) (step : IsStep old event (record { verdict = v; sends = sends }) new)
-    (wanted : (text : List ℕ) → before ≡ Some text → coming.is_wanted ≡ brings_wanted (at_moment old.policy (moment event)) event) where
-  abbrev pub answer : Answer
-  answer = record { verdict = v; sends = sends }
-
-  -- if the old node agrees (`Stands`) with a run, and `before` is the text `text` of this run's
-  -- journal, then the run extended by the event has a journal, and the text of this longer journal
-  -- is `text` followed by the text that is appended for the event
-  grows : (text : List ℕ) → before ≡ Some text → (is_journalled_entry coming.entry coming.is_wanted v ≡ true → IsLineAt time coming.entry) → (first : Policy) (past : Run) (journal : List PlainEvent) → Stands first past old
-      → IsJournalOf first past journal → IsTextOf journal text
-      → (longer : List PlainEvent) × IsJournalOf first (Then past event answer) longer
-      × IsTextOf longer (text ++ added_text (is_journalled_entry coming.entry coming.is_wanted v) time coming.entry)
-  grows text known line first past journal stands is_journal lines =
-      let steps = steps_by old new event coming.is_wanted v sends (moment event) time coming.entry is at step (is_journalled_entry coming.entry coming.is_wanted v) refl line in
-      both_grow first past old new event v sends journal text _ stands is_journal lines
-      (subst (λ (w : Bool). Steps old event w v sends new (added_text (is_journalled_entry coming.entry coming.is_wanted v) time coming.entry)) (wanted text known) steps)
-
-  pub KeepsJournal-answered : Journals before after time coming v → KeepsJournal old before (event ∷ []) (Answered answer ∷ []) after
-  KeepsJournal-answered journals = λ first past journal text begins run stands is_journal lines known.
-      let j : Journals (Some text) after time coming v = subst (λ (b : Option (List ℕ)). Journals b after time coming v) known journals in
-      let g = grows text known j.1 first past journal stands is_journal lines in
-      (g.0, _, g.1, g.2, j.0)
-
-  front_of : (text : List ℕ) → before ≡ Some text → is_journalled_entry coming.entry coming.is_wanted v ≡ true → (after ≡ Some text) ⊎ CutsLine text after time coming.entry → (first : Policy) (past : Run) (journal : List PlainEvent) → Stands first past old → IsJournalOf first past journal
-      → IsTextOf journal text → (after ≡ Some text) ⊎ ((longer : List PlainEvent) × (front back : List ℕ) × IsJournalOf first (Then past event answer) longer × IsTextOf longer (text ++ (front ++ back)) × (after ≡ Some (text ++ front)))
-  front_of text known chosen (inl same) first past journal stands is_journal lines = inl same
-  front_of text known chosen (inr cut) first past journal stands is_journal lines =
-      let g = grows text known (λ _. cut.is_line) first past journal stands is_journal lines in
-      let whole : added_text (is_journalled_entry coming.entry coming.is_wanted v) time coming.entry ≡ cut.front ++ cut.back =
-      ap (λ (b : Bool). added_text b time coming.entry) chosen ∙ cut.parts in
-      inr (g.0, cut.front, cut.back, g.1, subst (λ (t : List ℕ). IsTextOf g.0 (text ++ t)) whole g.2, cut.grown)
-
-  pub HasFront-failed : FailsToJournal before after time coming v → HasFront old before event answer after
-  HasFront-failed fails = λ first past journal text stands is_journal lines known.
-      let f : FailsToJournal (Some text) after time coming v = subst (λ (b : Option (List ℕ)). FailsToJournal b after time coming v) known fails in
-      front_of text known f.0 f.1 first past journal stands is_journal lines
-
--- ---- successive turns
-
--- in 0 turns, the node and the ports are unchanged, and there are no events and no outcomes
-
-pub Serves-start : (node : NodeState) (before : Shown) → (s : Serves node node before before 0 0 0) × (s.arrivals ≡ []) × (s.outcomes ≡ [])
-Serves-start node before = (
-  record {
-    arrivals = [];
-    outcomes = [];
-    came = GivesAll-none before.coming before.coming _ refl;
-    handled = refl;
-    goes_on = goes_on_from node node [] [] refl;
-    taken = [];
-    are_taken = (refl, refl);
-    takes = Takes-same before.taken before.taken refl;
-    journal = KeepsJournal-none node before.journal;
-    failures = refl;
-    events_is = refl;
-    refused_is = refl;
-  },
-  refl,
-  refl,
-)
-
-pub Serves-more : (old mid new : NodeState) (before between after : Shown) (events refused failed more : ℕ) (done_as : Outcome) (h : Serves old mid before between events refused failed)
-    → (k : Handles mid new between after done_as more)
-    → (s : Serves old new before after (events + 1) (refused + refused_count (done_as ∷ [])) (failed + more)) × (s.arrivals ≡ h.arrivals ++ (k.event ∷ [])) × (s.outcomes ≡ h.outcomes ++ (done_as ∷ []))
-Serves-more old mid new before between after events refused failed more done_as h k =
-    let outcomes = h.outcomes ++ (done_as ∷ []) in
-    let arrivals = h.arrivals ++ (k.event ∷ []) in
-    let handled = AreOutcomes-append old mid new h.arrivals (k.event ∷ []) h.outcomes (done_as ∷ []) h.handled (new, k.handled, refl) in
-    let sends : all_sends outcomes ≡ all_sends h.outcomes ++ sends_of done_as = all_sends-append h.outcomes (done_as ∷ []) ∙ ap (λ (t : List Send). all_sends h.outcomes ++ t) (append-nil (sends_of done_as)) in (
-      record {
-        arrivals = arrivals;
-        outcomes = outcomes;
-        came = GivesAll-then before.coming between.coming after.coming _ h.arrivals k.event h.came k.came;
-        handled = handled;
-        goes_on = goes_on_from old new arrivals outcomes handled;
-        taken = h.taken ++ k.taken;
-        are_taken = rw sends (AreSendsTaken-append (all_sends h.outcomes) (sends_of done_as) failed more h.taken k.taken h.are_taken k.are_taken);
-        takes = Takes-then before.taken between.taken after.taken h.taken k.taken h.takes k.takes;
-        journal = KeepsJournal-then old mid before.journal between.journal after.journal h.arrivals (k.event ∷ []) h.outcomes (done_as ∷ []) h.handled h.goes_on h.journal k.journal;
-        failures = k.failures ∙ ap (λ (n : ℕ). count_after n more) h.failures ∙ count_after-add before.failures failed more;
-        events_is = let e = h.events_is in omega (arith, e, length-append h.arrivals (k.event ∷ []));
-        refused_is = ap (λ (n : ℕ). n + refused_count (done_as ∷ [])) h.refused_is ∙ sym (refused_count-append h.outcomes (done_as ∷ []));
-      },
-      refl,
-      refl,
-    )
-
-pub Serves-none : (node : NodeState) (before : Shown) → Serves node node before before 0 0 0
-Serves-none node before = (Serves-start node before).0
-
-pub Serves-then : (old mid new : NodeState) (before between after : Shown) (events refused failed more : ℕ) (done_as : Outcome) → Serves old mid before between events refused failed
-    → Handles mid new between after done_as more → Serves old new before after (events + 1) (refused + refused_count (done_as ∷ [])) (failed + more)
-Serves-then old mid new before between after events refused failed more done_as h k =
-    (Serves-more old mid new before between after events refused failed more done_as h k).0
-
-pub Serves-answered : (old mid new : NodeState) (before between after : Shown) (events refused failed more : ℕ) (answer : Answer) → Serves old mid before between events refused failed
-    → Handles mid new between after (Answered answer) more → Serves old new before after (events + 1) refused (failed + more)
-Serves-answered old mid new before between after events refused failed more answer h k =
-    let P : ℕ → Type 0 = λ n. Serves old new before after (events + 1) n (failed + more) in
-    subst P (add-zero refused) (Serves-then old mid new before between after events refused failed more (Answered answer) h k)
-
-pub Serves-refused : (old mid new : NodeState) (before between after : Shown) (events refused failed : ℕ) → Serves old mid before between events refused failed
-    → Handles mid new between after NoMemory 0 → Serves old new before after (events + 1) (refused + 1) failed
-Serves-refused old mid new before between after events refused failed h k =
-    let P : ℕ → Type 0 = λ n. Serves old new before after (events + 1) (refused + 1) n in
-    subst P (add-zero failed) (Serves-then old mid new before between after events refused failed 0 NoMemory h k)
-
--- if `n` is limited to the greatest u64, `m` is added, and the sum is limited too, the result is
--- `n + m`, limited to the greatest u64
-pub count_of-add : (n m : ℕ) → min (count_of n + m) (2 ^ 64 - 1) ≡ count_of (n + m)
-count_of-add n m = omega arith
-
-pub Serves-end : (old new last : NodeState) (before between after : Shown) (events refused failed : ℕ) → Serves old new before between events refused failed → EndsNext between after → last ≡ new
-    → Serves old last before after events refused failed
-Serves-end old new last before between after events refused failed h k same =
-    let shown_same : after ≡ between = λ i. record { failures = k.failures i; coming = Gives-none_same between.coming after.coming _ k.coming i; taken = k.taken i; journal = k.journal i } in
-    rw (same, shown_same) h
-
--- ---- sends that are made one after another
+-- sending appends nothing to the journal
+pub sent_silent : (sends : List Send) (failed : ℕ) (steps : List PortStep) → AreSent sends failed steps → journalled steps ≡ []
+sent_silent [] failed steps h = ap journalled h.1
+sent_silent (s ∷ sends) failed steps (inl h) = ap journalled h.1 ∙ sent_silent sends failed h.0 h.2
+sent_silent (s ∷ sends) failed steps (inr h) = ap journalled h.3 ∙ sent_silent sends h.0 h.1 h.4
 
 pub take-next : (xs : List Send) (i : ℕ) (x : Send) → slice_get xs i ≡ Some x → take (suc i) xs ≡ take i xs ++ (x ∷ [])
 take-next [] i x h = cc h
 take-next (y ∷ ys) zero x h = let same : y ≡ x = cc h in ap (λ (t : Send). t ∷ []) same
 take-next (y ∷ ys) (suc i) x h = ap (λ (t : List Send). y ∷ t) (take-next ys i x h)
 
--- Let `failed` be the number of failed sends among the first `i` sends. Let `more` be 1 if the send
--- at index `i` failed, and 0 otherwise. Then `failed + more` is the number of failed sends among
--- the first `i + 1` sends, and the other sends among the first `i + 1` sends were accepted.
-pub sent_next : (xs : List Send) (i failed more : ℕ) (x : Send) (y : List Send) (a b c : Option (List Send)) → slice_get xs i ≡ Some x
-    → ((taken : List Send) × AreSendsTaken (take i xs) failed taken × Takes a b taken) → AreSendsTaken (x ∷ []) more y → Takes b c y
-    → (taken : List Send) × AreSendsTaken (take (i + 1) xs) (failed + more) taken × Takes a c taken
-sent_next xs i failed more x y a b c is h one takes =
+-- the sends before the index `i` were made in the steps `before`, and the send at the index `i` in
+-- the steps `one`
+pub sent_next : (xs : List Send) (i failed more : ℕ) (x : Send) (before one : List PortStep) → slice_get xs i ≡ Some x → AreSent (take i xs) failed before → AreSent (x ∷ []) more one
+    → AreSent (take (i + 1) xs) (failed + more) (before ++ one)
+sent_next xs i failed more x before one is h next =
     let e : take (i + 1) xs ≡ take i xs ++ (x ∷ []) = rw (add-one i) (take-next xs i x is) in
-    (h.0 ++ y, rw e (AreSendsTaken-append (take i xs) (x ∷ []) failed more h.0 y h.1 one), Takes-then a b c h.0 y h.2 takes)
+    rw e (AreSent-append (take i xs) (x ∷ []) failed more before one h next)
 
 pub when_err : {T E : Type 0} (P : Type 0) (r : Result T E) → is_err r ≡ true → OnErr r P → P
 when_err P (Ok t) e h = absurd cc
@@ -278,45 +71,95 @@ pub when_ok : {T E : Type 0} (P : Type 0) (r : Result T E) → is_err r ≡ fals
 when_ok P (Ok t) e h = h
 when_ok P (Err f) e h = absurd cc
 
+-- ---- the line of an event
+
+pub committed : (has : Bool) (coming : Coming) (event : PlainEvent) (old : NodeState) (v : PlainVerdict) → IsEventOf (moment event) coming.entry event
+    → (has ≡ true → coming.is_wanted ≡ brings_wanted (at_moment old.policy (moment event)) event) → is_committed has coming v ≡ has_line has old event v
+committed false coming event old v is wanted = refl
+committed true coming event old v is wanted =
+    sym (by_entry (moment event) coming.entry event coming.is_wanted v is) ∙ ap (λ (w : Bool). is_journalled_by event w v) (wanted refl)
+
+line_at : (old : NodeState) (event : PlainEvent) (e : Entry) (time : ℕ) → IsEventOf (moment event) e event → time ≡ max old.policy.now (moment event) → IsLineAt time e → IsLineOf old event (entry_text time e)
+line_at old event e time is at line =
+    subst (λ (t : ℕ). IsTextOf (with_moment t event ∷ []) (entry_text time e)) at (line (with_moment time event) (moved_entry time (moment event) e event is))
+
+-- the event is journalled in the steps that the ports did for its entry
+pub journals_by : (chosen : Bool) (old : NodeState) (event : PlainEvent) (e : Entry) (time : ℕ) → IsEventOf (moment event) e event → time ≡ max old.policy.now (moment event) → (chosen ≡ true → IsLineAt time e)
+    → Journals chosen old event (line_steps chosen (entry_text time e))
+journals_by true old event e time is at line = (entry_text time e, line_at old event e time is at (line refl), refl)
+journals_by false old event e time is at line = refl
+
+-- if the old node agrees with a run, this run's journal grows by the line of an event that is
+-- answered
+module _ (old new : NodeState) (event : PlainEvent) (v : PlainVerdict) (sends : List Send) (step : IsStep old event (record { verdict = v; sends = sends }) new) where
+  abbrev pub answer : Answer
+  answer = record { verdict = v; sends = sends }
+
+  abbrev pub wanted : Bool
+  wanted = brings_wanted (at_moment old.policy (moment event)) event
+
+  grown_by : (chosen : Bool) (lines : List PortStep) → is_journalled_by event wanted v ≡ chosen → Journals chosen old event lines → Steps old event wanted v sends new (journalled lines)
+  grown_by true lines is h = record {
+    step = step;
+    text =
+        subst (λ (c : Bool). IsTextOf (with_event c (with_moment (max old.policy.now (moment event)) event) []) (journalled lines)) (sym is)
+        (subst (IsTextOf (with_moment (max old.policy.now (moment event)) event ∷ [])) (sym (ap journalled h.2 ∙ append-nil h.0)) h.1);
+  }
+  grown_by false lines is h = record {
+    step = step;
+    text = subst (λ (c : Bool). IsTextOf (with_event c (with_moment (max old.policy.now (moment event)) event) []) (journalled lines)) (sym is) (ap journalled h);
+  }
+
+  pub grows_by : (line : List ℕ) → is_journalled_by event wanted v ≡ true → IsLineOf old event line → GrowsJournal old (event ∷ []) (Answered answer ∷ []) line
+  grows_by line chosen is = λ first past journal text begins run stands is_journal is_text.
+      let j : Journals true old event (Wrote line ∷ []) = (line, is, refl) in
+      let g = both_grow first past old new event v sends journal text (journalled (Wrote line ∷ [])) stands is_journal is_text (grown_by true (Wrote line ∷ []) chosen j) in
+      (g.0, g.1, subst (λ (t : List ℕ). IsTextOf g.0 (text ++ t)) (append-nil line) g.2)
+
+  pub grows : (lines : List PortStep) → Journals (has_line true old event v) old event lines → GrowsJournal old (event ∷ []) (Answered answer ∷ []) (journalled lines)
+  grows lines h = λ first past journal text begins run stands is_journal is_text.
+      both_grow first past old new event v sends journal text (journalled lines) stands is_journal is_text (grown_by (is_journalled_by event wanted v) lines refl h)
+
+-- an event whose line must be written is one that is journalled
+pub written_is : (has chosen : Bool) → is_written has chosen ≡ true → chosen ≡ true
+written_is true chosen h = h
+written_is false chosen h = absurd cc
+
+-- octets that are a prefix of the entry's line are a prefix of the event's line
+pub front_of : (old : NodeState) (event : PlainEvent) (e : Entry) (time : ℕ) (front : List ℕ) → IsEventOf (moment event) e event → time ≡ max old.policy.now (moment event) → IsFrontOfLine time e front
+    → IsFront old event front
+front_of old event e time front is at (inl none) = inl none
+front_of old event e time front is at (inr h) = inr (h.0, subst (IsLineOf old event) h.2 (line_at old event e time is at h.1))
+
 -- ---- one turn
 
-pub Handles-refused : (old new : NodeState) (before after : Shown) (event : PlainEvent) (e : Memory) → IsEvent event
-    → Gives before.coming after.coming FRAME_ROOM (Some event) → ChangesCacheOnly old new → (AsksNoMemory old event → IsOk {T = Verdict} {E = Memory} (Err e))
-    → after.taken ≡ before.taken → after.journal ≡ before.journal → after.failures ≡ before.failures → Handles old new before after NoMemory 0
-Handles-refused old new before after event e known gives unharmed quiet taken journal failures =
+pub Handles-refused : (has : Bool) (old new : NodeState) (event : PlainEvent) (e : Memory) → IsEvent event → ChangesCacheOnly old new → (AsksNoMemory old event → IsOk {T = Verdict} {E = Memory} (Err e))
+    → Handles has old new NoMemory 0 (Got FRAME_ROOM event ∷ [])
+Handles-refused has old new event e known unharmed quiet =
     let handled : IsOutcome old event NoMemory new = (known, unharmed, λ h. let ok = quiet h in cc) in
     record {
       event = event;
-      came = gives;
       handled = handled;
+      are_steps = (refl, refl);
       goes_on = goes_on_from old new (event ∷ []) (NoMemory ∷ []) (new, handled, refl);
-      taken = [];
-      are_taken = (refl, refl);
-      takes = Takes-same before.taken after.taken taken;
-      journal = KeepsJournal-refused old before.journal after.journal event journal;
-      failures = failures;
+      journal = λ on first past journal text begins run stands is lines. (journal, is, subst (IsTextOf journal) (sym (append-nil text)) lines);
     }
 
-pub Handles-answered : (old new : NodeState) (before mid after : Shown) (event : PlainEvent) (v : PlainVerdict) (out : List Send) (failed : ℕ) → IsEvent event
-    → Gives before.coming mid.coming FRAME_ROOM (Some event) → mid.taken ≡ before.taken → mid.failures ≡ before.failures → IsStep old event (record { verdict = v; sends = out }) new
-    → KeepsJournal old before.journal (event ∷ []) (Answered (record { verdict = v; sends = out }) ∷ []) mid.journal
-    → ((taken : List Send) × AreSendsTaken out failed taken × Takes mid.taken after.taken taken) → after.coming ≡ mid.coming → after.journal ≡ mid.journal → after.failures ≡ count_after mid.failures failed
-    → Handles old new before after (Answered (record { verdict = v; sends = out })) failed
-Handles-answered old new before mid after event v out failed known gives taken failures step keeps sent coming journal counted =
-    let answer : Answer = record { verdict = v; sends = out } in
-    let handled : IsOutcome old event (Answered answer) new = (known, step) in
-    let P : Option (List PlainEvent) → Type 0 = λ o. Gives before.coming o FRAME_ROOM (Some event) in
-    let Q : Option (List Send) → Type 0 = λ o. Takes o after.taken sent.0 in
+pub Handles-answered : (has : Bool) (old new : NodeState) (event : PlainEvent) (v : PlainVerdict) (out : List Send) (failed : ℕ) (lines sent : List PortStep) → IsEvent event
+    → IsStep old event (record { verdict = v; sends = out }) new → Journals (has_line has old event v) old event lines → AreSent out failed sent
+    → Handles has old new (Answered (record { verdict = v; sends = out })) failed (Got FRAME_ROOM event ∷ (lines ++ sent))
+Handles-answered has old new event v out failed lines sent known step line sending =
+    let done_as = Answered (record { verdict = v; sends = out }) in
+    let handled : IsOutcome old event done_as new = (known, step) in
+    let all : journalled (lines ++ sent) ≡ journalled lines =
+    journalled-append lines sent ∙ ap (λ (t : List ℕ). journalled lines ++ t) (sent_silent out failed sent sending) ∙ append-nil (journalled lines) in
     record {
       event = event;
-      came = subst P (sym coming) gives;
       handled = handled;
-      goes_on = goes_on_from old new (event ∷ []) (Answered answer ∷ []) (new, handled, refl);
-      taken = sent.0;
-      are_taken = sent.1;
-      takes = subst Q taken sent.2;
-      journal = subst (KeepsJournal old before.journal (event ∷ []) (Answered answer ∷ [])) (sym journal) keeps;
-      failures = counted ∙ ap (λ (n : ℕ). count_after n failed) failures;
+      are_steps = (lines, sent, line, sending, refl);
+      goes_on = goes_on_from old new (event ∷ []) (done_as ∷ []) (new, handled, refl);
+      journal = λ on. subst (GrowsJournal old (event ∷ []) (done_as ∷ [])) (sym all)
+          (grows old new event v out step lines (subst (λ (b : Bool). Journals (has_line b old event v) old event lines) on line));
     }
 
 -- if the outbox was empty before the step of an event, the sends of this step are the content of
@@ -326,3 +169,134 @@ pub step_of_outbox : (old new : NodeState) (event : PlainEvent) (verdict : Verdi
 step_of_outbox old new event verdict held out none step =
     let all : out ≡ step.0 = step.1 ∙ ap (λ (h : List Send). h ++ step.0) none in
     rw all step.2
+
+-- ---- the outcomes of successive turns
+
+pub refused_count-append : (a b : List Outcome) → refused_count (a ++ b) ≡ refused_count a + refused_count b
+refused_count-append [] b = sym (zero-add _)
+refused_count-append (Answered answer ∷ a) b = refused_count-append a b
+refused_count-append (NoMemory ∷ a) b = let e = refused_count-append a b in omega (arith, e)
+
+-- what the turns did to the node
+pub turns_outcomes : (has : Bool) (old new : NodeState) (events : List PlainEvent) (outcomes : List Outcome) (failed : ℕ) (steps : List PortStep) → AreTurns has old events outcomes failed new steps
+    → AreOutcomes old events outcomes new
+turns_outcomes has old new [] [] failed steps h = h.0
+turns_outcomes has old new [] (outcome ∷ outcomes) failed steps h = absurd h
+turns_outcomes has old new (event ∷ events) [] failed steps h = absurd h
+turns_outcomes has old new (event ∷ events) (outcome ∷ outcomes) failed steps h = (h.0, h.5, turns_outcomes has h.0 new events outcomes h.2 h.4 h.7)
+
+-- one more turn after others
+pub AreTurns-then : (has : Bool) (old mid new : NodeState) (events : List PlainEvent) (outcomes : List Outcome) (failed more : ℕ) (steps turn : List PortStep) (event : PlainEvent) (done_as : Outcome)
+    → AreTurns has old events outcomes failed mid steps → IsOutcome mid event done_as new → AreTurnSteps has mid event done_as more turn
+    → AreTurns has old (events ++ (event ∷ [])) (outcomes ++ (done_as ∷ [])) (failed + more) new (steps ++ turn)
+AreTurns-then has old mid new [] [] failed more steps turn event done_as h one are = (
+  new,
+  more,
+  0,
+  turn,
+  [],
+  subst (λ (n : NodeState). IsOutcome n event done_as new) h.0 one,
+  subst (λ (n : NodeState). AreTurnSteps has n event done_as more turn) h.0 are,
+  (refl, refl, refl),
+  let e = h.1 in omega (arith, e),
+  ap (λ (t : List PortStep). t ++ turn) h.2 ∙ sym (append-nil turn),
+)
+AreTurns-then has old mid new [] (outcome ∷ outcomes) failed more steps turn event done_as h one are = absurd h
+AreTurns-then has old mid new (e ∷ events) [] failed more steps turn event done_as h one are = absurd h
+AreTurns-then has old mid new (e ∷ events) (outcome ∷ outcomes) failed more steps turn event done_as h one are = (
+  h.0,
+  h.1,
+  h.2 + more,
+  h.3,
+  h.4 ++ turn,
+  h.5,
+  h.6,
+  AreTurns-then has h.0 mid new events outcomes h.2 more h.4 turn event done_as h.7 one are,
+  let e = h.8 in omega (arith, e),
+  ap (λ (t : List PortStep). t ++ turn) h.9 ∙ append_assoc h.3 h.4 turn,
+)
+
+-- ---- the journals of successive turns
+
+run_from-append : (old mid : NodeState) (past : Run) (es fs : List PlainEvent) (rs ss : List Outcome) → AreOutcomes old es rs mid
+    → run_from past (es ++ fs) (rs ++ ss) ≡ run_from (run_from past es rs) fs ss
+run_from-append old mid past [] fs [] ss h = refl
+run_from-append old mid past [] fs (r ∷ rs) ss h = absurd h
+run_from-append old mid past (e ∷ es) fs [] ss h = absurd h
+run_from-append old mid past (e ∷ es) fs (Answered answer ∷ rs) ss h = run_from-append h.0 mid (Then past e answer) es fs rs ss h.2
+run_from-append old mid past (e ∷ es) fs (NoMemory ∷ rs) ss h = run_from-append h.0 mid past es fs rs ss h.2
+
+GrowsJournal-then : (old mid : NodeState) (a b : List ℕ) (es fs : List PlainEvent) (rs ss : List Outcome) → AreOutcomes old es rs mid → ExtendsRuns old es rs mid → GrowsJournal old es rs a
+    → GrowsJournal mid fs ss b → GrowsJournal old (es ++ fs) (rs ++ ss) (a ++ b)
+GrowsJournal-then old mid a b es fs rs ss outcomes goes_on h k = λ first past journal text begins run stands is lines.
+    let on = goes_on first past begins run stands in
+    let one = h first past journal text begins run stands is lines in
+    let two = k first (run_from past es rs) one.0 (text ++ a) begins on.0 on.1 one.1 one.2 in (
+      two.0,
+      subst (λ (r : Run). IsJournalOf first r two.0) (sym (run_from-append old mid past es fs rs ss outcomes)) two.1,
+      subst (IsTextOf two.0) (append_assoc text a b) two.2,
+    )
+
+-- ---- successive turns
+
+-- in 0 turns, the node is unchanged, and there are no events and no outcomes
+pub Serves-start : (has : Bool) (node : NodeState) → (s : Serves has node node 0 0 0 []) × (s.arrivals ≡ []) × (s.outcomes ≡ [])
+Serves-start has node = (
+  record {
+    arrivals = [];
+    outcomes = [];
+    turns = (refl, refl, refl);
+    goes_on = goes_on_from node node [] [] refl;
+    journal = λ on first past journal text begins run stands is lines. (journal, is, subst (IsTextOf journal) (sym (append-nil text)) lines);
+    events_is = refl;
+    refused_is = refl;
+  },
+  refl,
+  refl,
+)
+
+pub Serves-more : (has : Bool) (old mid new : NodeState) (events refused failed more : ℕ) (done_as : Outcome) (before turn : List PortStep) (h : Serves has old mid events refused failed before)
+    → (k : Handles has mid new done_as more turn)
+    → (s : Serves has old new (events + 1) (refused + refused_count (done_as ∷ [])) (failed + more) (before ++ turn)) × (s.arrivals ≡ h.arrivals ++ (k.event ∷ [])) × (s.outcomes ≡ h.outcomes ++ (done_as ∷ []))
+Serves-more has old mid new events refused failed more done_as before turn h k =
+    let outcomes = h.outcomes ++ (done_as ∷ []) in
+    let arrivals = h.arrivals ++ (k.event ∷ []) in
+    let first = turns_outcomes has old mid h.arrivals h.outcomes failed before h.turns in
+    let handled = AreOutcomes-append old mid new h.arrivals (k.event ∷ []) h.outcomes (done_as ∷ []) first (new, k.handled, refl) in (
+      record {
+        arrivals = arrivals;
+        outcomes = outcomes;
+        turns = AreTurns-then has old mid new h.arrivals h.outcomes failed more before turn k.event done_as h.turns k.handled k.are_steps;
+        goes_on = goes_on_from old new arrivals outcomes handled;
+        journal = λ on. subst (GrowsJournal old arrivals outcomes) (sym (journalled-append before turn))
+            (GrowsJournal-then old mid (journalled before) (journalled turn) h.arrivals (k.event ∷ []) h.outcomes (done_as ∷ []) first h.goes_on (h.journal on) (k.journal on));
+        events_is = let e = h.events_is in omega (arith, e, length-append h.arrivals (k.event ∷ []));
+        refused_is = ap (λ (n : ℕ). n + refused_count (done_as ∷ [])) h.refused_is ∙ sym (refused_count-append h.outcomes (done_as ∷ []));
+      },
+      refl,
+      refl,
+    )
+
+pub Serves-none : (has : Bool) (node : NodeState) → Serves has node node 0 0 0 []
+Serves-none has node = (Serves-start has node).0
+
+Serves-then : (has : Bool) (old mid new : NodeState) (events refused failed more : ℕ) (done_as : Outcome) (before turn : List PortStep) → Serves has old mid events refused failed before
+    → Handles has mid new done_as more turn → Serves has old new (events + 1) (refused + refused_count (done_as ∷ [])) (failed + more) (before ++ turn)
+Serves-then has old mid new events refused failed more done_as before turn h k = (Serves-more has old mid new events refused failed more done_as before turn h k).0
+
+pub Serves-answered : (has : Bool) (old mid new : NodeState) (events refused failed more : ℕ) (answer : Answer) (before turn : List PortStep) → Serves has old mid events refused failed before
+    → Handles has mid new (Answered answer) more turn → Serves has old new (events + 1) refused (failed + more) (before ++ turn)
+Serves-answered has old mid new events refused failed more answer before turn h k =
+    let P : ℕ → Type 0 = λ n. Serves has old new (events + 1) n (failed + more) (before ++ turn) in
+    subst P (add-zero refused) (Serves-then has old mid new events refused failed more (Answered answer) before turn h k)
+
+pub Serves-refused : (has : Bool) (old mid new : NodeState) (events refused failed : ℕ) (before turn : List PortStep) → Serves has old mid events refused failed before
+    → Handles has mid new NoMemory 0 turn → Serves has old new (events + 1) (refused + 1) failed (before ++ turn)
+Serves-refused has old mid new events refused failed before turn h k =
+    let P : ℕ → Type 0 = λ n. Serves has old new (events + 1) (refused + 1) n (before ++ turn) in
+    subst P (add-zero failed) (Serves-then has old mid new events refused failed 0 NoMemory before turn h k)
+
+-- if `n` is limited to the greatest u64, `m` is added, and the sum is limited too, the result is
+-- `n + m`, limited to the greatest u64
+pub count_of-add : (n m : ℕ) → min (count_of n + m) (2 ^ 64 - 1) ≡ count_of (n + m)
+count_of-add n m = omega arith

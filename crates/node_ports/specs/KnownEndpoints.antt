@@ -11,7 +11,7 @@ use Rattle.node_ports.specs.declared.known_endpoints.Met.{Met}
 use Rattle.node_ports.specs.declared.known_endpoints.Met.TheVariants.{Face, Opening, Closing}
 use Rattle.node_ports.specs.Endpoints.{is_at}
 use Rattle.node_ports.specs.Clients.{GivesWay, Hears, HearsInTime, IsIdle, IsNoClient, IsSilentLongest}
-use Rattle.node_ports.specs.Ports.{one_more}
+use Rattle.node_ports.specs.Step.{one_more}
 
 -- the number of endpoints with faces
 abbrev pub known_count : KnownEndpoints → ℕ

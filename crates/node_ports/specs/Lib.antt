@@ -1,5 +1,9 @@
+pub mod Step
 pub mod Ports
 pub mod Memory
+pub mod Journalled
+pub mod Restarted
+pub mod Laws
 pub mod Renewal
 pub mod Serving
 pub mod Endpoints

@@ -1,8 +1,9 @@
--- The arrivals that a port returns, and the packets that it accepts.
-use Rattle.std.specs.Prelude.{◌≡◌, ℕ, ◌+◌, ◌-◌, ◌^◌, ◌≤◌, min, List, [], ◌∷◌, ◌++◌, take, Option, None, Some, ⊤}
+-- The arrivals that a port returns.
+use Rattle.std.specs.Prelude.{ℕ, ◌≤◌, List, take, Option, None, Some, ⊤}
+use Rattle.node_ports.specs.declared.ports.TheConstants.{FRAME_ROOM}
 use Rattle.node_ports.specs.declared.ports.Arrival.{Arrival}
 use Rattle.node_ports.specs.declared.ports.Arrival.TheVariants as code
-use Rattle.forwarder.specs.Event.{PlainEvent, Packet, FaceUp, FaceDown, Tick, NewRules, Send}
+use Rattle.forwarder.specs.Event.{PlainEvent, Packet, FaceUp, FaceDown, Tick, NewRules}
 
 -- if the arrival is a packet, the packet has at most `size` octets
 abbrev pub LiesWithin : ℕ → Arrival → Type 0
@@ -31,26 +32,28 @@ cut_to size (FaceDown face now) = FaceDown face now
 cut_to size (Tick now) = Tick now
 cut_to size (NewRules rules keys now) = NewRules rules keys now
 
--- `event` is the first of the events to come, with its packet truncated to `size` octets, or None
--- if no event was to come. The other events are still to come. If the events to come are not known,
--- nothing is stated about `event`.
-abbrev pub Gives : Option (List PlainEvent) → Option (List PlainEvent) → ℕ → Option PlainEvent
-    → Type 0
-Gives None new size event = new ≡ None
-Gives (Some []) new size event = (event ≡ None) × (new ≡ Some [])
-Gives (Some (first ∷ rest)) new size event =
-    (event ≡ Some (cut_to size first)) × (new ≡ Some rest)
+-- the time of an arrival, or None for `End`
+abbrev pub moment_of : Arrival → Option ℕ
+moment_of code.End = None
+moment_of (code.Packet face now len) = Some now
+moment_of (code.FaceUp face scope now) = Some now
+moment_of (code.FaceDown face now) = Some now
+moment_of (code.Tick now) = Some now
+moment_of (code.NewRules renewal now) = Some now
 
--- these packets were appended, in order, to the list of accepted packets; if the list is not known,
--- nothing is stated about the packets
-abbrev pub Takes : Option (List Send) → Option (List Send) → List Send → Type 0
-Takes None new sends = new ≡ None
-Takes (Some old) new sends = new ≡ Some (old ++ sends)
+-- ---- an arrival that is kept
 
--- `n`, but at most the greatest u64
-abbrev pub count_of : ℕ → ℕ
-count_of n = min n (2 ^ 64 - 1)
+-- the event of the arrival that is kept, whose octets are these
+abbrev pub held_event : Option Arrival → List ℕ → Option PlainEvent
+held_event None octets = None
+held_event (Some arrival) octets = arrived arrival octets
 
--- `n` plus 1, but at most the greatest u64
-abbrev pub one_more : ℕ → ℕ
-one_more n = count_of (n + 1)
+-- `End` is not kept, and a packet that is kept has at most 9,001 octets
+abbrev pub FitsHeld : Option Arrival → Type 0
+FitsHeld None = ⊤
+FitsHeld (Some code.End) = ⊥
+FitsHeld (Some (code.Packet face now len)) = len ≤ FRAME_ROOM
+FitsHeld (Some (code.FaceUp face scope now)) = ⊤
+FitsHeld (Some (code.FaceDown face now)) = ⊤
+FitsHeld (Some (code.Tick now)) = ⊤
+FitsHeld (Some (code.NewRules renewal now)) = ⊤

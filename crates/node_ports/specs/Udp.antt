@@ -13,7 +13,7 @@ use Rattle.node_ports.specs.declared.clients.Client.{Client}
 use Rattle.node_ports.specs.Endpoints.{is_at}
 use Rattle.node_ports.specs.Clients.{MayHear}
 use Rattle.node_ports.specs.KnownEndpoints.{Meets, with_clients}
-use Rattle.node_ports.specs.Ports.{one_more}
+use Rattle.node_ports.specs.Step.{one_more}
 
 -- a datagram that was received, but whose arrival was not yet returned
 pub record Datagram : Type 0 where

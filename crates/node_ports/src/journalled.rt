@@ -1,8 +1,5 @@
 //! Ports with a journal.
-ghost use Rattle.std.specs.Prelude.{◌≡◌, ◌∷◌, [], None, false, length, IfOk, IfSome, OnErr, OnOk};
-ghost use Rattle.forwarder.specs.Verdict.{verdict_of};
-ghost use Rattle.journal.specs.Appending.{FailsToJournal, Journals};
-ghost use Rattle.node_ports.specs.Ports.{Gives, LiesWithin, Takes, arrived, one_more};
+ghost use Rattle.std.specs.Prelude.{◌≡◌};
 
 use crate::ports::{Arrival, PortFault, Ports};
 use crate::serving::Turn;
@@ -12,8 +9,7 @@ use journal::{Coming, JournalFile, append_event};
 use std::alloc::Global;
 
 /// Ports with a journal in a file. They return the same arrivals and accept the same packets as the
-/// underlying ports. The line of a journalled event is in the file before any of the event's
-/// packets is sent.
+/// underlying ports. The lines of journalled events are appended to the file.
 #[derive(Drop)]
 pub struct JournalledPorts<P: Ports + Drop, F: JournalFile + Drop> {
     alloc: Global,
@@ -37,6 +33,14 @@ impl<P: Ports + Drop, F: JournalFile + Drop> JournalledPorts<P, F> {
         &self.ports
     }
 
+    /// Returns the underlying ports and the journal's file.
+    pub fn into_parts(self) -> (P, F)
+        ensures ports { result.0 ≡ self.ports }
+        ensures file { result.1 ≡ self.file }
+    {
+        (self.ports, self.file)
+    }
+
     /// Returns the journal's file.
     pub fn file(&self) -> &F
         ensures { result.now ≡ self.now.file }
@@ -46,13 +50,31 @@ impl<P: Ports + Drop, F: JournalFile + Drop> JournalledPorts<P, F> {
 }
 
 impl<P: Ports + Drop, F: JournalFile + Drop> Ports for JournalledPorts<P, F> {
-    ghost failures = { λ j. P.failures j.ports };
+    ghost use Rattle.std.specs.Prelude.{true};
+    ghost use Rattle.std.specs.Io.KnownBytes.{Appends};
+    ghost use Rattle.std.proofs.Common.{refl};
+    ghost use Rattle.std.proofs.KnownBytes.{Appends-nil};
+    ghost use Rattle.node_ports.specs.Journalled.{of_ports};
+    ghost use Rattle.node_ports.specs.Step.{journalled};
+    ghost use Rattle.node_ports.specs.Laws.{journalled_counts, journalled_goes_on};
 
-    ghost coming = { λ j. P.coming j.ports };
+    // The underlying ports did all other steps, and the file has what was journalled.
+    ghost does = { λ p steps q. P.does p.ports (of_ports steps) q.ports
+        × Appends (F.synced p.file) (F.synced q.file) (journalled steps) };
 
-    ghost taken = { λ j. P.taken j.ports };
+    ghost has_journal = { λ p. true };
 
-    ghost journal = { λ j. F.synced j.file };
+    ghost failures = { λ p. P.failures p.ports };
+
+    ghost rests = { λ p. (P.rests p.ports, Appends-nil (F.synced p.file)) };
+
+    ghost goes_on = { λ p q r a b. journalled_goes_on P.does p.ports q.ports r.ports (F.synced p.file)
+        (F.synced q.file) (F.synced r.file) (P.goes_on p.ports q.ports r.ports) a b };
+
+    ghost counts = { λ p q steps h. journalled_counts P.does P.failures P.counts p.ports q.ports steps
+        h.0 };
+
+    ghost stays = { λ p q steps h. refl };
 
     fn next(&mut self, buffer: &mut [u8]) -> Result<Arrival, PortFault> {
         self.ports.next(buffer)

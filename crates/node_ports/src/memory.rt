@@ -1,10 +1,13 @@
-ghost use Rattle.std.specs.Prelude.{◌≡◌, ◌-◌, ◌↔◌, [], ◌∷◌, None, Some, length, map, min, take, IfOk, IsErr, IsTrue, OnErr, OnOk};
-ghost use Rattle.node_ports.specs.Memory.{plain_arrival};
-ghost use Rattle.node_ports.specs.Ports.{Gives, LiesWithin, Takes, arrived, cut_to, one_more};
+ghost use Rattle.std.specs.Prelude.{◌≡◌, ◌-◌, ◌↔◌, ◌++◌, [], ◌∷◌, Some, length, map, IfOk, IsErr, IsTrue, OnErr, OnOk};
+ghost use Rattle.node_ports.specs.Memory.{AreDoneInMemory, plain_arrival};
+ghost use Rattle.node_ports.specs.Ports.{LiesWithin, arrived, cut_to};
+ghost use Rattle.node_ports.specs.Step.{FailedNext, FailedSend, Gave, one_more, step_of};
 
 use crate::ports::{Arrival, PortFault, Ports, put_front};
 use crate::renewal::Renewal;
+use crate::serving::Turn;
 use forwarder::{Outbox, Scope, Verdict};
+use info_rules::Rules;
 use journal::Coming;
 use std::alloc::Global;
 use std::collections::VecDeque;
@@ -37,7 +40,7 @@ pub enum OwnedArrival {
 }
 
 /// Ports in memory. The arrivals are the events of a list, and the ports store the packets that are
-/// sent.
+/// sent, and which calls of `next` came before each of them.
 ///
 /// `fail_next` makes one later call of `next` fail, and `fail_send` makes one later call of `send`
 /// fail. A send also fails if memory runs out.
@@ -45,6 +48,8 @@ pub enum OwnedArrival {
 pub struct MemoryPorts {
     arrivals: VecDeque<OwnedArrival>,
     taken: Outbox,
+    asked: u64,
+    places: Vec<u64>,
     failed: u64,
     next_told: u64,
     send_told: u64,
@@ -57,9 +62,13 @@ impl Model for MemoryPorts {
     ghost Value = { MemoryState };
 
     ghost view = { λ p. record {
-      events = map plain_arrival p.arrivals.items;
-      sent = p.taken;
-      failed = p.failed;
+      trace = record {
+        events = map plain_arrival p.arrivals.items;
+        sent = p.taken;
+        asked = p.asked;
+        places = p.places.items;
+        failed = p.failed;
+      };
       next_told = p.next_told;
       send_told = p.send_told;
     } };
@@ -69,9 +78,13 @@ impl MemoryPorts {
     /// Returns ports whose arrivals are `arrivals`. No call is told to fail.
     pub fn new(alloc: Global, arrivals: Vec<OwnedArrival>) -> MemoryPorts
         ensures { result ≡ record {
-          events = map plain_arrival arrivals.items;
-          sent = [];
-          failed = 0;
+          trace = record {
+            events = map plain_arrival arrivals.items;
+            sent = [];
+            asked = 0;
+            places = [];
+            failed = 0;
+          };
           next_told = 0;
           send_told = 0;
         } }
@@ -79,6 +92,8 @@ impl MemoryPorts {
         MemoryPorts {
             arrivals: VecDeque::from_vec(arrivals),
             taken: Outbox::new(alloc),
+            asked: 0,
+            places: Vec::new(alloc),
             failed: 0,
             next_told: 0,
             send_told: 0,
@@ -103,14 +118,24 @@ impl MemoryPorts {
 
     /// Returns the packets that were sent, without the sends that failed.
     pub fn sent(&self) -> &Outbox
-        ensures { result.now ≡ self.now.sent }
+        ensures { result.now ≡ self.now.trace.sent }
     {
         &self.taken
     }
 
+    /// Returns, for each packet that was sent, how many calls of `next` had succeeded before, at most
+    /// the greatest u64.
+    pub fn places(&self) -> &[u64]
+        ensures { result.now ≡ self.now.trace.places }
+    {
+        &self.places
+    }
+
     // Counts a failed call.
     fn fail(&mut self) -> PortFault
-        ensures { self.new ≡ record self.old { failed = one_more self.old.failed } }
+        ensures { self.new ≡ record self.old {
+          trace = record self.old.trace { failed = one_more self.old.trace.failed };
+        } }
     {
         self.failed = self.failed.saturating_add(1);
         PortFault::Failed
@@ -118,22 +143,31 @@ impl MemoryPorts {
 }
 
 impl Ports for MemoryPorts {
-    ghost failures = { λ p. p.failed };
+    ghost use Rattle.std.specs.Prelude.{false};
+    ghost use Rattle.std.proofs.Common.{refl};
+    ghost use Rattle.node_ports.specs.Memory.{AreDoneInMemory};
+    ghost use Rattle.node_ports.specs.Laws.{memory_counts, memory_goes_on};
 
-    ghost coming = { λ p. Some p.events };
+    ghost does = { λ p steps q. AreDoneInMemory p.trace steps q.trace };
 
-    ghost taken = { λ p. Some p.sent };
+    ghost has_journal = { λ p. false };
 
-    ghost journal = { λ p. None };
+    ghost failures = { λ p. p.trace.failed };
+
+    ghost rests = { λ p. refl };
+
+    ghost goes_on = { λ p q r a b. memory_goes_on p.trace q.trace r.trace a b };
+
+    ghost counts = { λ p q steps. memory_counts p.trace q.trace steps };
+
+    ghost stays = { λ p q steps h. refl };
 
     fn next(&mut self, buffer: &mut [u8]) -> Result<Arrival, PortFault>
         ensures fits { IfOk result (LiesWithin (length buffer.new)) }
-        ensures gives { IfOk result (λ arrival. Gives (Some self.old.events) (Some self.new.events)
-            (length buffer.new) (arrived arrival buffer.new)) }
-        ensures takes_none { Some self.new.sent ≡ Some self.old.sent }
-        ensures works { OnOk result (self.new.failed ≡ self.old.failed) }
-        ensures failed { OnErr result ((Some self.new.events ≡ Some self.old.events)
-            × (self.new.failed ≡ one_more self.old.failed)) }
+        ensures came { IfOk result (λ arrival. AreDoneInMemory self.old.trace
+            (step_of (length buffer.new) (arrived arrival buffer.new) ∷ []) self.new.trace) }
+        ensures failed { OnErr result
+            (AreDoneInMemory self.old.trace (FailedNext ∷ []) self.new.trace) }
         // The call fails if and only if it is told to fail.
         ensures told { IsErr result ↔ (self.old.next_told ≡ 1) }
         ensures nearer { self.new.next_told ≡ self.old.next_told - 1 }
@@ -142,10 +176,15 @@ impl Ports for MemoryPorts {
         if is_told(&mut self.next_told) {
             return Err(self.fail());
         }
+        self.asked = self.asked.saturating_add(1);
         match self.arrivals.pop_front() {
             Some(event) => Ok(put_event(event, buffer)),
             None => Ok(Arrival::End),
         }
+    }
+
+    fn next_soon(&mut self, _buffer: &mut [u8]) -> Option<Arrival> {
+        None
     }
 
     fn keeps_journal(&self) -> bool {
@@ -163,25 +202,26 @@ impl Ports for MemoryPorts {
     }
 
     fn send(&mut self, face: u64, octets: &[u8]) -> Result<(), PortFault>
-        ensures takes { OnOk result
-            (Takes (Some self.old.sent) (Some self.new.sent) ((face, octets.now) ∷ [])) }
-        ensures gives_none { Some self.new.events ≡ Some self.old.events }
-        ensures works { OnOk result (self.new.failed ≡ self.old.failed) }
-        ensures failed { OnErr result ((Some self.new.sent ≡ Some self.old.sent)
-            × (self.new.failed ≡ one_more self.old.failed)) }
+        ensures gave { OnOk result
+            (AreDoneInMemory self.old.trace (Gave (face, octets.now) ∷ []) self.new.trace) }
+        ensures failed { OnErr result
+            (AreDoneInMemory self.old.trace (FailedSend (face, octets.now) ∷ []) self.new.trace) }
         // The call fails if it is told to fail. Otherwise it fails only if memory runs out.
         ensures told { self.old.send_told ≡ 1 → IsErr result }
         ensures nearer { self.new.send_told ≡ self.old.send_told - 1 }
         ensures next_told { self.new.next_told ≡ self.old.next_told }
     {
-        if is_told(&mut self.send_told) {
+        if is_told(&mut self.send_told) || self.places.push(self.asked).is_err() {
             return Err(self.fail());
         }
         if self.taken.push(face, octets).is_err() {
+            let _place = self.places.pop();
             return Err(self.fail());
         }
         Ok(())
     }
+
+    fn note(&mut self, _turn: &Turn, _octets: &[u8], _rules: &Rules) {}
 
     fn failures(&self) -> u64 {
         self.failed
@@ -201,7 +241,7 @@ fn is_told(told: &mut u64) -> bool
 
 // Returns the arrival for an event. Copies the octets of the event's packet, except those that do
 // not fit, to the start of the buffer.
-fn put_event(event: OwnedArrival, buffer: &mut [u8]) -> Arrival
+pub(crate) fn put_event(event: OwnedArrival, buffer: &mut [u8]) -> Arrival
     ensures fits { LiesWithin (length buffer.new) result }
     ensures event { arrived result buffer.new
         ≡ Some (cut_to (length buffer.new) (plain_arrival event)) }

@@ -1,11 +1,15 @@
-ghost use Rattle.std.specs.Prelude.{◌≡◌, ℕ, List, [], ◌∷◌, Option, None, false, length, min, take, IfOk, IfSome, OnOk, OnErr};
-ghost use Rattle.forwarder.specs.Event.{PlainEvent, Send};
+ghost use Rattle.std.specs.Prelude.{◌≡◌, ℕ, Bool, List, [], ◌∷◌, ◌++◌, None, true, length, min, take, IfOk, IfSome, OnOk, OnErr};
 ghost use Rattle.forwarder.specs.Verdict.{verdict_of};
-ghost use Rattle.journal.specs.Appending.{FailsToJournal, Journals};
-ghost use Rattle.node_ports.specs.Ports.{Gives, LiesWithin, Takes, arrived, one_more};
+ghost use Rattle.journal.specs.Appending.{IsFrontOfLine, IsLineAt};
+ghost use Rattle.journal.specs.Line.{entry_text};
+ghost use Rattle.node_ports.specs.Ports.{LiesWithin, arrived, moment_of};
+ghost use Rattle.node_ports.specs.Step.{FailedNext, FailedSend, FailedWrite, Gave, PortStep, count_after, failures_in, is_committed, line_steps, step_of};
 
+use crate::clients::GIVE_WAY_MILLISECONDS;
+use crate::datagram::ANSWER_SECONDS;
 use crate::renewal::Renewal;
 use crate::serving::Turn;
+use crate::udp::SOON_MILLISECONDS;
 use forwarder::{Scope, Verdict};
 use info_rules::Rules;
 use journal::Coming;
@@ -18,9 +22,13 @@ use thiserror::Error;
 pub const FRAME_ROOM: usize = MAX_FRAME + 1;
 
 /// Law: `FRAME_ROOM` is 9,001, one more than the length in octets of the longest packet that a node
-/// accepts.
-pub fn frame_room_is_as_promised()
-    ensures { FRAME_ROOM ≡ 9001 }
+/// accepts. A client that has been silent for 10 seconds may lose its face. `next_soon` waits for a
+/// millisecond at a UDP port. An answer to a client is waited for during 4 seconds.
+pub fn ports_are_as_promised()
+    ensures room { FRAME_ROOM ≡ 9001 }
+    ensures gives_way { GIVE_WAY_MILLISECONDS ≡ 10000 }
+    ensures soon { SOON_MILLISECONDS ≡ 1 }
+    ensures answer { ANSWER_SECONDS ≡ 4 }
 {}
 
 /// What a port returns in one turn. Times are in milliseconds since 1970.
@@ -40,6 +48,22 @@ pub enum Arrival {
     NewRules { renewal: Renewal, now: u64 },
 }
 
+impl Arrival {
+    /// Returns the time of the arrival, or `None` for the arrival `End`.
+    pub fn moment(&self) -> Option<u64>
+        ensures { result ≡ moment_of self.now }
+    {
+        match self {
+            Arrival::End => None,
+            Arrival::Packet { now, .. }
+            | Arrival::FaceUp { now, .. }
+            | Arrival::FaceDown { now, .. }
+            | Arrival::Tick { now }
+            | Arrival::NewRules { now, .. } => Some(*now),
+        }
+    }
+}
+
 /// A port failed.
 #[derive(Clone, Copy, Debug, PartialEq, Eq, Error)]
 pub enum PortFault {
@@ -50,90 +74,83 @@ pub enum PortFault {
 /// A port returns arrivals and sends packets. A port counts the failed calls of `next` and `send`:
 /// each failed call increases the count, unless the count is the greatest u64.
 pub trait Ports {
+    // `does before steps after`: from the state `before`, the port did these steps, in this order,
+    // and is then in the state `after`. For ports in memory, the steps are known, except where among
+    // them the failed calls were. For sockets, only the number of failed calls is known.
+    ghost does: { Self → List PortStep → Self → Type 0 };
+
+    // Whether the port has a journal.
+    ghost has_journal: { Self → Bool };
+
     // The number of failed calls of `next` and `send`, at most the greatest u64.
     ghost failures: { Self → ℕ };
-
-    // The events that have not yet arrived, if they are known.
-    ghost coming: { Self → Option (List PlainEvent) };
-
-    // The packets that the port has accepted for sending, if the port stores them.
-    ghost taken: { Self → Option (List Send) };
-
-    // The octets of the journal that survive a crash, if the port has a journal and these octets
-    // are known.
-    ghost journal: { Self → Option (List ℕ) };
 
     /// Returns the next arrival. Copies the octets of a packet to the start of the buffer. A packet
     /// longer than the buffer is truncated.
     fn next(&mut self, buffer: &mut [u8]) -> Result<Arrival, PortFault>
         ensures fits { IfOk result (LiesWithin (length buffer.new)) }
-        ensures gives { IfOk result (λ arrival. Gives (coming self.old) (coming self.new)
-            (length buffer.new) (arrived arrival buffer.new)) }
-        ensures takes_none { taken self.new ≡ taken self.old }
-        ensures journals_none { journal self.new ≡ journal self.old }
-        ensures works { OnOk result (failures self.new ≡ failures self.old) }
-        // If the call fails, the events that have not yet arrived are unchanged, and the call is
-        // counted.
-        ensures failed { OnErr result ((coming self.new ≡ coming self.old)
-            × (failures self.new ≡ one_more (failures self.old))) };
+        ensures came { IfOk result (λ arrival. does self.old
+            (step_of (length buffer.new) (arrived arrival buffer.new) ∷ []) self.new) }
+        ensures failed { OnErr result (does self.old (FailedNext ∷ []) self.new) };
 
     /// Returns the next arrival, as `next` does, if an arrival is available within some
     /// milliseconds. Returns `None` otherwise. A port that cannot limit its waiting to some
     /// milliseconds may always return `None`.
-    fn next_soon(&mut self, _buffer: &mut [u8]) -> Option<Arrival>
-        ensures fits { IfSome result (LiesWithin (length _buffer.new)) }
-        ensures gives { IfSome result (λ arrival. Gives (coming self.old) (coming self.new)
-            (length _buffer.new) (arrived arrival _buffer.new)) }
-        ensures none { result ≡ None → coming self.new ≡ coming self.old }
-        ensures takes_none { taken self.new ≡ taken self.old }
-        ensures journals_none { journal self.new ≡ journal self.old }
-        ensures works { failures self.new ≡ failures self.old }
-    {
-        None
-    }
+    fn next_soon(&mut self, buffer: &mut [u8]) -> Option<Arrival>
+        ensures fits { IfSome result (LiesWithin (length buffer.new)) }
+        ensures came { IfSome result (λ arrival. does self.old
+            (step_of (length buffer.new) (arrived arrival buffer.new) ∷ []) self.new) }
+        ensures none { result ≡ None → does self.old [] self.new };
 
     /// Returns whether the port has a journal.
     fn keeps_journal(&self) -> bool
-        ensures { result ≡ false → journal self.now ≡ None };
+        ensures { result ≡ has_journal self.now };
 
     /// Is called for each answered event with its verdict, before the event's packets are sent. If
     /// the event must be journalled, a port with a journal appends the event's line, and succeeds
     /// only when the line survives a crash. The time in the line is `time`: the greatest of the
     /// times of this event and all events answered before.
     fn commit(&mut self, event: &Coming<'_>, time: u64, verdict: &Verdict) -> Result<(), PortFault>
-        ensures done { OnOk result (Journals (journal self.old) (journal self.new) time
-            event.now (verdict_of verdict.now)) }
-        ensures failed { OnErr result (FailsToJournal (journal self.old) (journal self.new) time
-            event.now (verdict_of verdict.now)) }
-        ensures gives_none { coming self.new ≡ coming self.old }
-        ensures takes_none { taken self.new ≡ taken self.old }
-        ensures works { failures self.new ≡ failures self.old };
+        ensures done { OnOk result (does self.old
+            (line_steps (is_committed (has_journal self.old) event.now (verdict_of verdict.now))
+            (entry_text time event.now.entry)) self.new) }
+        ensures line { OnOk result
+            (is_committed (has_journal self.old) event.now (verdict_of verdict.now) ≡ true
+            → IsLineAt time event.now.entry) }
+        ensures failed { OnErr result
+            ((is_committed (has_journal self.old) event.now (verdict_of verdict.now) ≡ true)
+            × ((front : List ℕ) × IsFrontOfLine time event.now.entry front
+            × does self.old (FailedWrite front ∷ []) self.new)) };
 
     /// Sends octets to a face.
     fn send(&mut self, face: u64, octets: &[u8]) -> Result<(), PortFault>
-        ensures takes { OnOk result
-            (Takes (taken self.old) (taken self.new) ((face, octets.now) ∷ [])) }
-        ensures gives_none { coming self.new ≡ coming self.old }
-        ensures journals_none { journal self.new ≡ journal self.old }
-        ensures works { OnOk result (failures self.new ≡ failures self.old) }
-        // A failed call accepts no packet, and the call is counted.
-        ensures failed { OnErr result ((taken self.new ≡ taken self.old)
-            × (failures self.new ≡ one_more (failures self.old))) };
+        ensures gave { OnOk result (does self.old (Gave (face, octets.now) ∷ []) self.new) }
+        ensures failed { OnErr result
+            (does self.old (FailedSend (face, octets.now) ∷ []) self.new) };
 
-    /// Is called with the result `_turn` of a turn, after the packets of the turn were sent. If the
-    /// arrival of the turn is a packet, `_octets` begins with the packet's octets. `_rules` are the
+    /// Is called with the result `turn` of a turn, after the packets of the turn were sent. If the
+    /// arrival of the turn is a packet, `octets` begins with the packet's octets. `rules` are the
     /// rules in force after the turn. A port with a log writes the result to the log, and nothing
     /// else changes.
-    fn note(&mut self, _turn: &Turn, _octets: &[u8], _rules: &Rules)
-        ensures gives_none { coming self.new ≡ coming self.old }
-        ensures takes_none { taken self.new ≡ taken self.old }
-        ensures journals_none { journal self.new ≡ journal self.old }
-        ensures works { failures self.new ≡ failures self.old }
-    {}
+    fn note(&mut self, turn: &Turn, octets: &[u8], rules: &Rules)
+        ensures { does self.old [] self.new };
 
     /// Returns the number of failed calls of `next` and `send`, at most the greatest u64.
     fn failures(&self) -> u64
         ensures { result ≡ failures self.now };
+
+    // A port that did nothing did no steps.
+    ghost rests: { (p : Self) → does p [] p };
+
+    // Steps after steps are one list of steps.
+    ghost goes_on: { (p q r : Self) (a b : List PortStep) → does p a q → does q b r
+        → does p (a ++ b) r };
+
+    ghost counts: { (p q : Self) (steps : List PortStep) → does p steps q
+        → failures q ≡ count_after (failures p) (failures_in steps) };
+
+    ghost stays: { (p q : Self) (steps : List PortStep) → does p steps q
+        → has_journal q ≡ has_journal p };
 }
 
 // Copies the octets, except those that do not fit, to the start of the buffer. Returns the number

@@ -1,10 +1,11 @@
-ghost use Rattle.std.specs.Prelude.{◌≡◌, ◌≤◌, [], ℕ, List, Option, None, Some, IfOk, IfErr, IfSome, OnErr};
-ghost use Rattle.forwarder.specs.Event.{PlainEvent, Send, moment, plain};
+ghost use Rattle.std.specs.Prelude.{◌≡◌, [], ◌∷◌, ◌++◌, List, ℕ, true, IfOk, IfErr, IfSome, None, OnErr};
+ghost use Rattle.forwarder.specs.Event.{moment, plain};
 ghost use Rattle.forwarder.specs.Policy.{at_moment};
 ghost use Rattle.forwarder.specs.Wanted.{brings_wanted};
 ghost use Rattle.journal.specs.Line.{IsEventOf};
-ghost use Rattle.node_ports.specs.Ports.{Gives, LiesWithin, Takes, arrived, count_of};
-ghost use Rattle.node_ports.specs.Serving.{AreSendsTaken, EndsAfter, FailsNext, IsTurn, Serves, StopsServing, count_after, shown};
+ghost use Rattle.node_ports.specs.Ports.{LiesWithin, arrived};
+ghost use Rattle.node_ports.specs.Serving.{AreSent, EndsAfter, IsTurn, ServesAll, StopsServing};
+ghost use Rattle.node_ports.specs.Step.{FailedNext, Got, PortStep, count_of, step_of};
 
 use crate::ports::{Arrival, FRAME_ROOM, Ports};
 use forwarder::{Event, Node, Outbox, Verdict};
@@ -66,21 +67,15 @@ pub fn serve<P: Ports>(
     ports: &mut P,
     turns: u64,
 ) -> Result<Served, ServeFault>
-    ensures served { IfOk result (λ served. (failed : ℕ)
-        × Serves node.old node.new
-        (shown (P.failures ports.old) (P.coming ports.old) (P.taken ports.old)
-        (P.journal ports.old))
-        (shown (P.failures ports.new) (P.coming ports.new) (P.taken ports.new)
-        (P.journal ports.new))
-        served.events served.refused failed
+    ensures served { IfOk result (λ served. (failed : ℕ) × (steps : List PortStep)
+        × P.does ports.old steps ports.new
+        × ServesAll (P.has_journal ports.old) node.old node.new served.events served.refused failed
+        served.ended steps
         × (served.failed_sends ≡ count_of failed)) }
-    ensures ended { IfOk result
-        (λ served. EndsAfter turns served.ended served.events (P.coming ports.new)) }
-    ensures stopped { IfErr result (StopsServing node.old node.new
-        (shown (P.failures ports.old) (P.coming ports.old) (P.taken ports.old)
-        (P.journal ports.old))
-        (shown (P.failures ports.new) (P.coming ports.new) (P.taken ports.new)
-        (P.journal ports.new)) turns) }
+    ensures ended { IfOk result (λ served. EndsAfter turns served.ended served.events) }
+    ensures stopped { IfErr result (λ fault. (steps : List PortStep)
+        × P.does ports.old steps ports.new
+        × StopsServing (P.has_journal ports.old) node.old node.new turns steps fault) }
 {
     let mut outbox = Outbox::new(alloc);
     let mut buffer = [0; FRAME_ROOM];
@@ -126,17 +121,11 @@ pub fn serve_turn<P: Ports>(
     ports: &mut P,
     outbox: &mut Outbox,
 ) -> Result<Turn, ServeFault>
-    ensures turn { IfOk result (IsTurn node.old node.new
-        (shown (P.failures ports.old) (P.coming ports.old) (P.taken ports.old)
-        (P.journal ports.old))
-        (shown (P.failures ports.new) (P.coming ports.new) (P.taken ports.new)
-        (P.journal ports.new)) outbox.new) }
+    ensures turn { IfOk result (λ turn. (steps : List PortStep)
+        × P.does ports.old steps ports.new
+        × IsTurn (P.has_journal ports.old) node.old node.new outbox.new turn steps) }
     ensures fault { IfErr result (λ fault. fault ≡ ServeFault.Next 0) }
-    ensures stopped { OnErr result (FailsNext
-        (shown (P.failures ports.old) (P.coming ports.old) (P.taken ports.old)
-        (P.journal ports.old))
-        (shown (P.failures ports.new) (P.coming ports.new) (P.taken ports.new)
-        (P.journal ports.new))
+    ensures stopped { OnErr result (P.does ports.old (FailedNext ∷ []) ports.new
         × (node.new ≡ node.old) × (outbox.new ≡ [])) }
 {
     serve_turn_in(node, ports, &mut [0; FRAME_ROOM], outbox)
@@ -150,17 +139,11 @@ pub fn serve_turn_in<P: Ports>(
     buffer: &mut [u8; FRAME_ROOM],
     outbox: &mut Outbox,
 ) -> Result<Turn, ServeFault>
-    ensures turn { IfOk result (IsTurn node.old node.new
-        (shown (P.failures ports.old) (P.coming ports.old) (P.taken ports.old)
-        (P.journal ports.old))
-        (shown (P.failures ports.new) (P.coming ports.new) (P.taken ports.new)
-        (P.journal ports.new)) outbox.new) }
+    ensures turn { IfOk result (λ turn. (steps : List PortStep)
+        × P.does ports.old steps ports.new
+        × IsTurn (P.has_journal ports.old) node.old node.new outbox.new turn steps) }
     ensures fault { IfErr result (λ fault. fault ≡ ServeFault.Next 0) }
-    ensures stopped { OnErr result (FailsNext
-        (shown (P.failures ports.old) (P.coming ports.old) (P.taken ports.old)
-        (P.journal ports.old))
-        (shown (P.failures ports.new) (P.coming ports.new) (P.taken ports.new)
-        (P.journal ports.new))
+    ensures stopped { OnErr result (P.does ports.old (FailedNext ∷ []) ports.new
         × (node.new ≡ node.old) × (outbox.new ≡ [])) }
 {
     outbox.clear();
@@ -171,25 +154,19 @@ pub fn serve_turn_in<P: Ports>(
 }
 
 /// Does the same as `serve_turn_in` if `next_soon` returns an arrival. If `next_soon` returns
-/// `None`, also returns `None`. When `None` is returned, the node and the visible state of the port
-/// are unchanged, and the outbox is empty.
+/// `None`, also returns `None`. When `None` is returned, the node is unchanged, and the outbox is
+/// empty.
 pub fn serve_turn_soon<P: Ports>(
     node: &mut Node,
     ports: &mut P,
     buffer: &mut [u8; FRAME_ROOM],
     outbox: &mut Outbox,
 ) -> Option<Turn>
-    ensures turn { IfSome result (IsTurn node.old node.new
-        (shown (P.failures ports.old) (P.coming ports.old) (P.taken ports.old)
-        (P.journal ports.old))
-        (shown (P.failures ports.new) (P.coming ports.new) (P.taken ports.new)
-        (P.journal ports.new)) outbox.new) }
-    ensures none { result ≡ None
-        → (shown (P.failures ports.new) (P.coming ports.new) (P.taken ports.new)
-        (P.journal ports.new)
-        ≡ shown (P.failures ports.old) (P.coming ports.old) (P.taken ports.old)
-        (P.journal ports.old))
-        × (node.new ≡ node.old) × (outbox.new ≡ []) }
+    ensures turn { IfSome result (λ turn. (steps : List PortStep)
+        × P.does ports.old steps ports.new
+        × IsTurn (P.has_journal ports.old) node.old node.new outbox.new turn steps) }
+    ensures none { result ≡ None → P.does ports.old [] ports.new × (node.new ≡ node.old)
+        × (outbox.new ≡ []) }
 {
     outbox.clear();
     let arrival = ports.next_soon(buffer)?;
@@ -206,12 +183,9 @@ fn handle<P: Ports>(
 ) -> Turn
     requires fits { LiesWithin FRAME_ROOM arrival }
     requires empty { outbox.old ≡ [] }
-    ensures { (before : Option (List PlainEvent))
-        → Gives before (P.coming ports.old) FRAME_ROOM (arrived arrival buffer.now)
-        → IsTurn node.old node.new
-        (shown (P.failures ports.old) before (P.taken ports.old) (P.journal ports.old))
-        (shown (P.failures ports.new) (P.coming ports.new) (P.taken ports.new)
-        (P.journal ports.new)) outbox.new result }
+    ensures { (steps : List PortStep) × P.does ports.old steps ports.new
+        × IsTurn (P.has_journal ports.old) node.old node.new outbox.new result
+        (step_of FRAME_ROOM (arrived arrival buffer.now) ∷ steps) }
 {
     let turn = answer(node, ports, arrival, buffer, outbox);
     ports.note(&turn, buffer, node.rules());
@@ -228,12 +202,9 @@ fn answer<P: Ports>(
 ) -> Turn
     requires fits { LiesWithin FRAME_ROOM arrival }
     requires empty { outbox.old ≡ [] }
-    ensures { (before : Option (List PlainEvent))
-        → Gives before (P.coming ports.old) FRAME_ROOM (arrived arrival buffer.now)
-        → IsTurn node.old node.new
-        (shown (P.failures ports.old) before (P.taken ports.old) (P.journal ports.old))
-        (shown (P.failures ports.new) (P.coming ports.new) (P.taken ports.new)
-        (P.journal ports.new)) outbox.new result }
+    ensures { (steps : List PortStep) × P.does ports.old steps ports.new
+        × IsTurn (P.has_journal ports.old) node.old node.new outbox.new result
+        (step_of FRAME_ROOM (arrived arrival buffer.now) ∷ steps) }
 {
     match arrival {
         Arrival::End => Turn::End,
@@ -281,12 +252,9 @@ fn handle_event<P: Ports>(
 ) -> Turn
     requires entry { IsEventOf (moment (plain event)) entry.now (plain event) }
     requires empty { outbox.old ≡ [] }
-    ensures { (before : Option (List PlainEvent))
-        → Gives before (P.coming ports.old) FRAME_ROOM (Some (plain event.entry))
-        → IsTurn node.old node.new
-        (shown (P.failures ports.old) before (P.taken ports.old) (P.journal ports.old))
-        (shown (P.failures ports.new) (P.coming ports.new) (P.taken ports.new)
-        (P.journal ports.new)) outbox.new result }
+    ensures { (steps : List PortStep) × P.does ports.old steps ports.new
+        × IsTurn (P.has_journal ports.old) node.old node.new outbox.new result
+        (Got FRAME_ROOM (plain event.entry) ∷ steps) }
 {
     let coming = Coming {
         entry: *entry,
@@ -311,7 +279,7 @@ fn handle_event<P: Ports>(
 // Returns whether the event brings a Data that the repository wants. Returns `false` if the port
 // has no journal.
 fn is_wanted<P: Ports>(node: &Node, ports: &P, event: &Event<'_>) -> bool
-    ensures { (text : List ℕ) → P.journal ports.now ≡ Some text
+    ensures { P.has_journal ports.now ≡ true
         → result ≡ brings_wanted (at_moment node.now.policy (moment (plain event.now)))
         (plain event.now) }
 {
@@ -323,11 +291,8 @@ fn is_wanted<P: Ports>(node: &Node, ports: &P, event: &Event<'_>) -> bool
 
 // Sends the packets of the outbox, and returns the number of failed sends.
 fn send_all<P: Ports>(ports: &mut P, outbox: &Outbox) -> u64
-    ensures sent { (taken : List Send) × AreSendsTaken outbox.now result taken
-        × Takes (P.taken ports.old) (P.taken ports.new) taken }
-    ensures coming { P.coming ports.new ≡ P.coming ports.old }
-    ensures journal { P.journal ports.new ≡ P.journal ports.old }
-    ensures failures { P.failures ports.new ≡ count_after (P.failures ports.old) result }
+    ensures { (steps : List PortStep) × P.does ports.old steps ports.new
+        × AreSent outbox.now result steps }
 {
     let mut failed = 0;
     for i in 0..outbox.len() {

@@ -1,15 +1,18 @@
 //! Ports over UDP.
-ghost use Rattle.std.specs.Prelude.{◌≡◌, ◌<◌, ◌≤◌, ◌↔◌, ℕ, List, None, Some, true, false, length, take, IfOk, IfSome, IsTrue, OnOk, OnErr};
+ghost use Rattle.std.specs.Prelude.{◌≡◌, ◌<◌, ◌≤◌, ◌↔◌, ◌∷◌, [], ℕ, List, None, Some, true, false, length, take, IfOk, IfSome, IsTrue, OnOk, OnErr};
 ghost use Rattle.std.specs.Option.{option_or};
 ghost use Rattle.std.specs.declared.net.socket_addr.SocketAddr.{SocketAddr};
 ghost use Rattle.node_ports.specs.Endpoints.{AreLocalhostAt, IsLocalhostAt};
 ghost use Rattle.node_ports.specs.KnownEndpoints.{endpoint_at};
-ghost use Rattle.node_ports.specs.Ports.{LiesWithin, one_more};
+ghost use Rattle.node_ports.specs.Ports.{LiesWithin, arrived};
+ghost use Rattle.node_ports.specs.Step.{count_after, failures_in, one_more, step_of};
 ghost use Rattle.node_ports.specs.Udp.{Brings, DropsStrangers, FailsReceiving, GivesWaiting, BringsAfterClosing, HasOpened, IsAccepted, Listens, OpensPeer, UdpGives, bound_to, closes_after, kept, waiting_at};
 
 use crate::known_endpoints::{KnownEndpoints, Met};
 use crate::ports::{Arrival, FRAME_ROOM, PortFault, Ports, put_front};
+use crate::serving::Turn;
 use forwarder::{MAX_FACES, Scope, Verdict};
+use info_rules::Rules;
 use journal::Coming;
 use std::marker::Model;
 use std::net::{Ipv4Addr, Net, SocketAddr, SocketAddrV4, UdpSocket};
@@ -415,18 +418,30 @@ impl<M: Moments> UdpPorts<M> {
 }
 
 impl<M: Moments> Ports for UdpPorts<M> {
+    ghost use Rattle.std.specs.Prelude.{false};
+    ghost use Rattle.std.proofs.Common.{refl};
+    ghost use Rattle.node_ports.specs.Laws.{counted_after};
+    ghost use Rattle.node_ports.specs.Step.{count_after, failures_in};
+
+    // Of the steps at a socket, only the number of failed calls is known.
+    ghost does = { λ u steps v. v.failures ≡ count_after u.failures (failures_in steps) };
+
+    ghost has_journal = { λ u. false };
+
     ghost failures = { λ u. u.failures };
 
-    // The events that have not yet arrived and the packets that were accepted are not known.
-    ghost coming = { λ u. None };
+    ghost rests = { λ u. refl };
 
-    ghost taken = { λ u. None };
+    ghost goes_on = { λ u v w a b. counted_after u.failures v.failures w.failures a b };
 
-    ghost journal = { λ u. None };
+    ghost counts = { λ u v steps h. h };
+
+    ghost stays = { λ u v steps h. refl };
 
     fn next(&mut self, buffer: &mut [u8]) -> Result<Arrival, PortFault>
         ensures fits { IfOk result (LiesWithin (length buffer.new)) }
-        ensures works { OnOk result (self.new.failures ≡ self.old.failures) }
+        ensures came { IfOk result (λ arrival. self.new.failures ≡ count_after self.old.failures
+            (failures_in (step_of (length buffer.new) (arrived arrival buffer.new) ∷ []))) }
         ensures gives { IfOk result (UdpGives self.old self.new buffer.new) }
         ensures failed { OnErr result (FailsReceiving self.old self.new) }
     {
@@ -438,8 +453,10 @@ impl<M: Moments> Ports for UdpPorts<M> {
 
     fn next_soon(&mut self, buffer: &mut [u8]) -> Option<Arrival>
         ensures fits { IfSome result (LiesWithin (length buffer.new)) }
-        ensures works { self.new.failures ≡ self.old.failures }
+        ensures came { IfSome result (λ arrival. self.new.failures ≡ count_after self.old.failures
+            (failures_in (step_of (length buffer.new) (arrived arrival buffer.new) ∷ []))) }
         ensures gives { IfSome result (UdpGives self.old self.new buffer.new) }
+        ensures rests { result ≡ None → self.new.failures ≡ self.old.failures }
         ensures none { result ≡ None → Listens self.old × DropsStrangers self.old self.new }
     {
         self.take(buffer, true)
@@ -474,6 +491,8 @@ impl<M: Moments> Ports for UdpPorts<M> {
             _ => Err(self.fail()),
         }
     }
+
+    fn note(&mut self, _turn: &Turn, _octets: &[u8], _rules: &Rules) {}
 
     fn failures(&self) -> u64 {
         self.failures

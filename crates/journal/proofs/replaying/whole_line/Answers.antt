@@ -1,4 +1,4 @@
-use Rattle.std.proofs.Common.{List, ℕ, [], ◌∷◌, ◌++◌, ap, ◌∙◌}
+use Rattle.std.proofs.Common.{ℕ, [], ◌∷◌, ◌++◌, ap, ◌∙◌}
 use Rattle.journal.proofs.Replays.{all_lack, front_lacks}
 use Rattle.journal.proofs.replaying.whole_line.Goals as goal
 

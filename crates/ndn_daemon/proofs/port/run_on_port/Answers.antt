@@ -1,6 +1,5 @@
 use Rattle.forwarder.specs.Parts.{parts_fault}
 use Rattle.node_core.proofs.Finishing.{made_of_good_parts}
-use Rattle.ndn_daemon.proofs.Turns.{from_first}
 use Rattle.ndn_daemon.proofs.port.run_on_port.Goals as goal
 
 pub returns-clause-parts : goal.returns-clause-parts
@@ -9,6 +8,3 @@ returns-clause-parts g c =
 
 pub returns-clause-none : goal.returns-clause-none
 returns-clause-none g c = λ zero plain good. c.take_bound.ensures.none zero plain
-
-pub returns-clause-served : goal.returns-clause-served
-returns-clause-served g c = from_first _ _ _ c.in-Ok.node c.take_bound.new.node c.take_bound.result c.in-Ok.ensures.ok c.take_bound.ensures.served

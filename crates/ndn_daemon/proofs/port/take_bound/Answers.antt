@@ -1,7 +1,7 @@
 use Rattle.std.proofs.Common.{inr}
 use Rattle.std.proofs.lemmas.Result.{IfErr-weaker}
 use Rattle.ndn_daemon.specs.Turn.{EndsTurns, HasNoTurns, StopsAt}
-use Rattle.ndn_daemon.proofs.Turns.{no_fault}
+use Rattle.ndn_daemon.proofs.Telling.{no_fault}
 use Rattle.ndn_daemon.proofs.port.take_bound.Goals as goal
 
 pub returns-clause-fault : goal.returns-clause-fault

@@ -1,61 +1,80 @@
-use Rattle.std.proofs.Common.{◌≡◌, List, [], ◌∷◌, max, refl, sym, subst, ◌∙◌}
-use Rattle.std.specs.Prelude.{Option, Some}
-use Rattle.forwarder.specs.Event.{PlainEvent, moment, plain}
+use Rattle.std.proofs.Common.{◌≡◌, ◌++◌, [], ◌∷◌, max, true, refl, sym, subst, ◌∙◌}
+use Rattle.std.specs.Prelude.{Bool}
+use Rattle.forwarder.specs.Event.{moment, plain}
 use Rattle.forwarder.specs.Verdict.{Answer, verdict_of}
+use Rattle.node_core.specs.Outcomes.{Answered, IsOutcome}
+use Rattle.node_core.proofs.Outcomes.{goes_on_from}
 use Rattle.forwarder.proofs.LaterMoments.{after_now}
 use Rattle.journal.specs.declared.append.Coming.{Coming}
-use Rattle.node_ports.specs.declared.ports.TheConstants.{FRAME_ROOM}
-use Rattle.node_ports.specs.Ports.{Gives}
-use Rattle.node_ports.specs.Serving.{shown}
-use Rattle.node_ports.proofs.Turns.{Handles-answered, Handles-refused, HasFront-failed, KeepsJournal-answered, step_of_outbox}
+use Rattle.journal.specs.Appending.{IsLineAt}
+use Rattle.journal.specs.Line.{entry_text}
+use Rattle.node_ports.specs.Serving.{Journals, has_line}
+use Rattle.node_ports.specs.Step.{FailedWrite, line_steps}
+use Rattle.node_ports.proofs.Turns.{Handles-answered, Handles-refused, committed, front_of, grows_by, journals_by, step_of_outbox, written_is}
 use Rattle.node_ports.proofs.serving.handle_event.Goals as goal
 
 pub returns-in-Err : goal.returns-in-Err
-returns-in-Err g c = λ before gives. (
-  Handles-refused c.args.node.now c.step.new.self
-      (shown (g.P.Ports.failures c.args.ports.now) before (g.P.Ports.taken c.args.ports.now) (g.P.Ports.journal c.args.ports.now))
-      (shown (g.P.Ports.failures c.args.ports.now) (g.P.Ports.coming c.args.ports.now) (g.P.Ports.taken c.args.ports.now) (g.P.Ports.journal c.args.ports.now))
-      (plain c.args.event) c.in-Err.field-0 (c.step.ensures.octets, c.step.ensures.keys) gives c.in-Err.ensures.memory.0 c.in-Err.ensures.without_memory refl refl refl,
-  c.in-Err.ensures.memory.1 ∙ c.requires.empty,
+returns-in-Err g c = (
+  [],
+  g.met.P.Ports.rests _,
+  (
+    Handles-refused _ c.args.node.now c.step.new.self (plain c.args.event) c.in-Err.field-0 (c.step.ensures.octets, c.step.ensures.keys) c.in-Err.ensures.memory.0 c.in-Err.ensures.without_memory,
+    c.in-Err.ensures.memory.1 ∙ c.requires.empty,
+  ),
 )
 
 pub returns-in-Ok-commit : goal.returns-in-Ok-commit
-returns-in-Ok-commit g c = λ before gives.
+returns-in-Ok-commit g c =
     let event = plain c.args.event in
     let old = c.args.node.now in
     let new = c.step.new.self in
+    let v = verdict_of c.in-Ok.verdict in
+    let has = g.P.Ports.has_journal c.args.ports.now in
     let step = step_of_outbox old new event c.in-Ok.verdict c.args.outbox.now c.step.new.outbox c.requires.empty c.in-Ok.ensures.answered in
     let coming : Coming = record { entry = c.args.entry.now; is_wanted = c.is_wanted.result } in
     let at : c.now.result ≡ max old.policy.now (moment event) = c.now.ensures ∙ after_now old.policy new.policy event step.policy in
-    let keeps = KeepsJournal-answered old new event (verdict_of c.in-Ok.verdict) c.step.new.outbox coming c.now.result (g.P.Ports.journal c.args.ports.now) (g.P.Ports.journal c.commit.new.self)
-    c.requires.entry at step c.is_wanted.ensures c.in-Ok-commit.ensures.done in
-    let came = subst (λ (o : Option (List PlainEvent)). Gives before o FRAME_ROOM (Some event)) (sym c.commit.ensures.gives_none) gives in
-    Handles-answered old new
-    (shown (g.P.Ports.failures c.args.ports.now) before (g.P.Ports.taken c.args.ports.now) (g.P.Ports.journal c.args.ports.now))
-    (shown (g.P.Ports.failures c.commit.new.self) (g.P.Ports.coming c.commit.new.self) (g.P.Ports.taken c.commit.new.self) (g.P.Ports.journal c.commit.new.self))
-    (shown (g.P.Ports.failures c.send_all-failed.new.ports) (g.P.Ports.coming c.send_all-failed.new.ports) (g.P.Ports.taken c.send_all-failed.new.ports) (g.P.Ports.journal c.send_all-failed.new.ports))
-    event (verdict_of c.in-Ok.verdict) c.step.new.outbox c.send_all-failed.result (c.step.ensures.octets, c.step.ensures.keys) came c.commit.ensures.takes_none c.commit.ensures.works step keeps
-    c.send_all-failed.ensures.sent c.send_all-failed.ensures.coming c.send_all-failed.ensures.journal c.send_all-failed.ensures.failures
+    let chosen = committed has coming event old v c.requires.entry c.is_wanted.ensures in
+    let done = c.in-Ok-commit.ensures.done in
+    let lines = line_steps (has_line has old event v) (entry_text c.now.result c.args.entry.now) in
+    let did : g.P.Ports.does c.args.ports.now lines c.commit.new.self =
+    subst (λ (b : Bool). g.P.Ports.does c.args.ports.now (line_steps b (entry_text c.now.result c.args.entry.now)) c.commit.new.self) chosen done in
+    let line : has_line has old event v ≡ true → IsLineAt c.now.result c.args.entry.now = λ is. c.in-Ok-commit.ensures.line (chosen ∙ is) in
+    let journals : Journals (has_line has old event v) old event lines = journals_by (has_line has old event v) old event c.args.entry.now c.now.result c.requires.entry at line in
+    let sent = c.send_all-failed.ensures in (
+      lines ++ sent.0,
+      g.met.P.Ports.goes_on c.args.ports.now c.commit.new.self c.send_all-failed.new.ports lines sent.0 did sent.1,
+      Handles-answered has old new event v c.step.new.outbox c.send_all-failed.result lines sent.0 (c.step.ensures.octets, c.step.ensures.keys) step journals sent.2,
+    )
 
 pub returns-in-Err-commit : goal.returns-in-Err-commit
-returns-in-Err-commit g c = λ before gives.
+returns-in-Err-commit g c =
     let event = plain c.args.event in
     let old = c.args.node.now in
     let new = c.step.new.self in
+    let v = verdict_of c.in-Ok.verdict in
+    let has = g.P.Ports.has_journal c.args.ports.now in
     let step = step_of_outbox old new event c.in-Ok.verdict c.args.outbox.now c.step.new.outbox c.requires.empty c.in-Ok.ensures.answered in
     let coming : Coming = record { entry = c.args.entry.now; is_wanted = c.is_wanted.result } in
     let at : c.now.result ≡ max old.policy.now (moment event) = c.now.ensures ∙ after_now old.policy new.policy event step.policy in
-    let answer : Answer = record { verdict = verdict_of c.in-Ok.verdict; sends = c.step.new.outbox } in
-    let front = HasFront-failed old new event (verdict_of c.in-Ok.verdict) c.step.new.outbox coming c.now.result (g.P.Ports.journal c.args.ports.now) (g.P.Ports.journal c.commit.new.self)
-    c.requires.entry at step c.is_wanted.ensures c.in-Err-commit.ensures.failed in (
-      record {
-        event = event;
-        answer = answer;
-        came = subst (λ (o : Option (List PlainEvent)). Gives before o FRAME_ROOM (Some event)) (sym c.commit.ensures.gives_none) gives;
-        handled = ((c.step.ensures.octets, c.step.ensures.keys), step);
-        taken = c.commit.ensures.takes_none;
-        journal = front;
-        failures = c.commit.ensures.works;
-      },
-      c.clear.ensures,
+    let chosen = committed has coming event old v c.requires.entry c.is_wanted.ensures in
+    let failed = c.in-Err-commit.ensures.failed in
+    let must : has_line has old event v ≡ true = sym chosen ∙ failed.0 in
+    let answer : Answer = record { verdict = v; sends = c.step.new.outbox } in
+    let handled : IsOutcome old event (Answered answer) new = ((c.step.ensures.octets, c.step.ensures.keys), step) in (
+      FailedWrite failed.1.0 ∷ [],
+      failed.1.2,
+      (
+        record {
+          event = event;
+          answer = answer;
+          handled = handled;
+          must = must;
+          front = failed.1.0;
+          is_front = front_of old event c.args.entry.now c.now.result failed.1.0 c.requires.entry at failed.1.1;
+          goes_on = goes_on_from old new (event ∷ []) (Answered answer ∷ []) (new, handled, refl);
+          journal = λ line is. grows_by old new event v c.step.new.outbox step line (written_is has _ must) is;
+          are_steps = refl;
+        },
+        c.clear.ensures,
+      ),
     )

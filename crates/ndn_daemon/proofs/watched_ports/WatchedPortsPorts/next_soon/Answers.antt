@@ -1,0 +1,17 @@
+use Rattle.std.proofs.Common.{length}
+use Rattle.node_ports.specs.Ports.{arrived}
+use Rattle.ndn_daemon.proofs.Watching.{watched_given, watched_held}
+use Rattle.ndn_daemon.proofs.watched_ports.WatchedPortsPorts.next_soon.Goals as goal
+
+pub returns-in-Some-clause-came : goal.returns-in-Some-clause-came
+returns-in-Some-clause-came g c =
+    let taken = c.in-Some.ensures.taken in
+    watched_held g.P.Ports.does g.S.RuleSource.renews c.args.self.now.ports c.args.self.now.source c.args.self.now.held c.take.new.self taken.0 (length c.take.new.buffer) (arrived c.in-Some.arrival c.take.new.buffer)
+    (g.met.P.Ports.rests _) (g.met.S.RuleSource.rests _) taken.1 taken.2 c.take.ensures.empty
+
+pub returns-in-Some-next_soon-clause-came : goal.returns-in-Some-next_soon-clause-came
+returns-in-Some-next_soon-clause-came g c =
+    let after = c.renewed_first.new.self in
+    watched_given g.P.Ports.does g.S.RuleSource.renews c.args.self.now.ports after.ports c.args.self.now.source after.source c.args.self.now.held after.held (length c.next_soon.new.buffer)
+    (arrived c.in-Some-next_soon.arrival c.next_soon.new.buffer) (arrived c.renewed_first.result c.next_soon.new.buffer) (g.met.P.Ports.rests _) (g.met.S.RuleSource.rests _) (c.take.ensures.none c.in_default.is)
+    (rw c.renewed_first.ensures.ports c.in-Some-next_soon.ensures.came) c.renewed_first.ensures.ended c.renewed_first.ensures.renewed

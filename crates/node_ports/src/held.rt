@@ -1,0 +1,86 @@
+//! An arrival that is kept for a later turn.
+ghost use Rattle.std.specs.Prelude.{◌≡◌, None, Some, length, IfSome};
+ghost use Rattle.std.specs.Option.{option_map};
+ghost use Rattle.forwarder.specs.Event.{PlainEvent};
+ghost use Rattle.node_ports.specs.Ports.{FitsHeld, LiesWithin, arrived, cut_to, held_event};
+
+use crate::ports::{Arrival, FRAME_ROOM, put_front};
+use std::marker::Model;
+
+/// At most one arrival, with the octets of its packet.
+#[derive(Drop)]
+pub struct HeldArrival {
+    // If the arrival is a packet, `octets` begins with the octets of the packet.
+    arrival: Option<Arrival>,
+    octets: [u8; FRAME_ROOM],
+}
+
+impl Model for HeldArrival {
+    ghost use Rattle.std.specs.Prelude.{Option};
+    ghost use Rattle.forwarder.specs.Event.{PlainEvent};
+    ghost use Rattle.node_ports.specs.Ports.{FitsHeld, held_event};
+
+    ghost Value = { Option PlainEvent };
+
+    ghost view = { λ h. held_event h.arrival h.octets };
+
+    ghost invariant = { λ h. FitsHeld h.arrival };
+}
+
+impl HeldArrival {
+    /// Returns a place without an arrival.
+    pub fn none() -> HeldArrival
+        ensures { result ≡ None }
+    {
+        HeldArrival {
+            arrival: None,
+            octets: [0; FRAME_ROOM],
+        }
+    }
+
+    /// Keeps an arrival in place of the one that was kept before. `End` is not kept, and then none
+    /// is. If the arrival is a packet, its octets are the first octets of the buffer, and at most
+    /// 9,001 of them are kept.
+    pub fn keep(&mut self, arrival: Arrival, buffer: &[u8])
+        requires { LiesWithin (length buffer.now) arrival }
+        ensures { self.new ≡ option_map (cut_to FRAME_ROOM) (arrived arrival buffer.now) }
+    {
+        self.arrival = kept(arrival, buffer, &mut self.octets);
+    }
+
+    /// Returns the arrival that was kept, if there is one. Copies the octets of a packet to the
+    /// start of the buffer. Octets that do not fit are dropped.
+    pub fn take(&mut self, buffer: &mut [u8]) -> Option<Arrival>
+        ensures fits { IfSome result (LiesWithin (length buffer.new)) }
+        ensures taken { IfSome result (λ arrival. (event : PlainEvent)
+            × (self.old ≡ Some event)
+            × (arrived arrival buffer.new ≡ Some (cut_to (length buffer.new) event))) }
+        ensures none { result ≡ None → self.old ≡ None }
+        ensures empty { self.new ≡ None }
+    {
+        match self.arrival.take()? {
+            Arrival::Packet { face, now, len } => {
+                let len = put_front(&self.octets[..len], buffer);
+                Some(Arrival::Packet { face, now, len })
+            }
+            other => Some(other),
+        }
+    }
+}
+
+// Returns the arrival as it is kept, and copies the octets of a packet.
+fn kept(arrival: Arrival, buffer: &[u8], octets: &mut [u8; FRAME_ROOM]) -> Option<Arrival>
+    requires { LiesWithin (length buffer.now) arrival }
+    ensures fits { FitsHeld result }
+    ensures event { held_event result octets.new
+        ≡ option_map (cut_to FRAME_ROOM) (arrived arrival buffer.now) }
+{
+    match arrival {
+        Arrival::End => None,
+        Arrival::Packet { face, now, len } => {
+            let len = put_front(&buffer[..len], octets);
+            Some(Arrival::Packet { face, now, len })
+        }
+        other => Some(other),
+    }
+}
