@@ -12,7 +12,7 @@ use Rattle.ndn_packets.specs.Packet.{PlainSignature, PlainInterest, PlainFrame, 
 use Rattle.info_rules.specs.declared.rules.RuleNo.{RuleNo}
 use Rattle.info_rules.specs.declared.decision.Decision.{Decision}
 use Rattle.info_rules.specs.declared.decision.Decision.TheVariants as decided
-use Rattle.info_rules.proofs.Signers.{signer_named}
+use Rattle.info_rules.proofs.Signers.{interest_named}
 use Rattle.replay_guard.specs.Freshness.{Signer, Recorded, AreNear, IsNewer, NumberRises}
 use Rattle.replay_guard.specs.Guard.{Latest, Table, IsAfterLatest as IsLater, IsFresh, raised, signer_cmp, table_of, with_recorded}
 use Rattle.replay_guard.proofs.Past.{fresh_by_table, one_more}
@@ -211,7 +211,7 @@ newer first was run event whole other i j r s apart allowed h allows is also sam
 pub never_again : (first was : Policy) (run : Run) (event : PlainEvent) (whole other : List ℕ) (i j : PlainInterest) → KeysAreApart first run → AllowedIn first run (AnInterest whole i)
     → IsPolicyOf first run was → Allows was event (AnInterest other j) → i.signature ≡ j.signature → ⊥
 never_again first was run event whole other i j apart allowed h allows same =
-    let named = signer_named was.rules was.keys (AnInterest other j) allows.rule allows.said.0 in
+    let named = interest_named was.rules was.keys other j allows.rule allows.said.0 in
     let s = recorded_there j named.0 named.0.info.time named.1 refl named.2 in
     let r = recorded_there i named.0 named.0.info.time (same ∙ named.1) refl named.2 in
     let one : r.0 ≡ s.0 = (let e : Some r.0 ≡ Some s.0 = sym r.1 ∙ ap (λ (o : Option PlainSignature). elim o [ None ↦ None | Some signature ↦ recorded_with signature.info signature.info.time ]) same ∙ s.1 in cc e) in

@@ -14,12 +14,12 @@ use Rattle.info_rules.specs.Walk.{walk_faults}
 use Rattle.info_rules.specs.Faults.{after, memory_fault}
 use Rattle.std.specs.Result.{result_err}
 use Rattle.info_rules.specs.Found.{Found, both, beside, needed, shown, each}
-use Rattle.info_rules.specs.Keys.{on_option, first_of, others_of, is_word, named, value_of, fault_at}
+use Rattle.info_rules.specs.Keys.{on_option, first_of, others_of, is_word, named, says, value_of, fault_at}
 use Rattle.info_rules.specs.ValueWords.{kind_in, is_anchor_type}
 use Rattle.info_rules.specs.Values.{◌>>=◌, id_in, value_in, anchor_type_in, anchor_given_in, anchor_value_in}
 use Rattle.info_rules.specs.FilterBlock.{filter_in}
 use Rattle.info_rules.specs.CheckerBlock.{checker_in}
-use Rattle.info_rules.specs.RuleBlock.{rule_with, head_in, rule_parts, rule_of_keys, rule_in}
+use Rattle.info_rules.specs.RuleBlock.{rule_with, head_in, rule_parts, further_faults, rule_of_keys, rule_in}
 use Rattle.info_rules.specs.AnchorBlock.{anchor_of, anchor_in}
 use Rattle.info_rules.specs.RuleFile.{id_key, same_id_faults, repeated_faults, id_faults, shared_faults, rules_of_keys, rules_in}
 use Rattle.info_rules.specs.Limits.{HaveOwnIds}
@@ -29,7 +29,7 @@ use Rattle.info_rules.proofs.Limits.{none_of_both, head_gave, no_fault, each_len
 use Rattle.info_rules.proofs.Meanings.{beside_again, needed_again, mean_of, each_of, mean_length, fits, fits_again, fits_open, fits_open_again, alone, value_is, has, has_again, has_once, block_ok, block_again}
 use Rattle.info_rules.proofs.WordMeanings.{kind_means, kind_meant, id_means, id_meant}
 use Rattle.info_rules.proofs.CheckerMeanings.{ok_one, filter_means, filter_meant}
-use Rattle.info_rules.proofs.RuleMeanings.{checker_means, checker_meant}
+use Rattle.info_rules.proofs.RuleMeanings.{checker_means, checker_meant, for_is, apart_means, apart_meant}
 
 -- ---- the meaning of rules
 
@@ -38,43 +38,51 @@ unfolding after
 no_faults faults e = rw e refl
 
 rule_keys : (line : ℕ) (keys : List Block) (rule : PlainRule) → rule_of_keys line keys ≡ Ok rule → AreOfRule keys rule
-unfolding rule_of_keys rule_parts table
+unfolding rule_of_keys rule_parts further_faults table
 rule_keys line keys rule e =
+    let for_interests = says (codes "for") (codes "interest") keys in
     let id = value_in kinds.BadValue id_in (codes "id") keys in
     let kind = value_in kinds.BadValue kind_in (codes "for") keys in
     let filters = each filter_in (named (codes "filter") keys) in
-    let checkers = each checker_in (named (codes "checker") keys) in
-    let all = beside_ok (after None (walk_faults blocks.Rule keys)) (shown rule_with (rule_parts line keys)) rule e in
-    let fit = fits blocks.Rule keys refl all.0 in
+    let checkers = each (checker_in for_interests) (named (codes "checker") keys) in
+    let all = beside_ok (after None (walk_faults blocks.Rule keys ++ further_faults keys)) (shown rule_with (rule_parts line keys)) rule e in
+    let none = none_of_both (walk_faults blocks.Rule keys) (further_faults keys) (no_fault (walk_faults blocks.Rule keys ++ further_faults keys) all.0) in
+    let fit = fits blocks.Rule keys refl (no_faults (walk_faults blocks.Rule keys) none.0) in
     let read = shown_ok rule_with (rule_parts line keys) rule all.1 in
     let parts = both_ok (head_in line keys) (both filters checkers) read.0 read.1 in
     let head = both_ok (needed line id) (needed line kind) read.0.0 parts.0 in
     let tests = both_ok filters checkers read.0.1 parts.1 in
     let named_so = has kinds.BadValue id_in (codes "id") keys read.0.0.0 (needed_ok line id read.0.0.0 head.0) fit.1.0 in
     let meant_for = has kinds.BadValue kind_in (codes "for") keys read.0.0.1 (needed_ok line kind read.0.0.1 head.1) fit.1.1.0 in
+    let is = for_is keys meant_for.0 read.0.0.1 meant_for.1 (kind_means meant_for.0 read.0.0.1 meant_for.2) in
+    let meant = mean_of (checker_in for_interests) (IsChecker read.0.0.1) (checker_means for_interests read.0.0.1 is) (named (codes "checker") keys) read.0.1.1 tests.1 in
     let few : length read.0.1.0 ≤ 16 = subst (λ n. n ≤ 16) (sym (each_length filter_in (named (codes "filter") keys) read.0.1.0 tests.0)) fit.1.1.1.0 in
-    let few_checkers : length read.0.1.1 ≤ 16 = subst (λ n. n ≤ 16) (sym (each_length checker_in (named (codes "checker") keys) read.0.1.1 tests.1)) fit.1.1.1.1.0 in
+    let few_checkers : length read.0.1.1 ≤ 16 = subst (λ n. n ≤ 16) (sym (each_length (checker_in for_interests) (named (codes "checker") keys) read.0.1.1 tests.1)) fit.1.1.1.1.0 in
     subst (AreOfRule keys) read.2 (
       fit.0,
       (named_so.0, named_so.1, id_means named_so.0 read.0.0.0 named_so.2),
       (meant_for.0, meant_for.1, kind_means meant_for.0 read.0.0.1 meant_for.2),
       mean_of filter_in IsFilter filter_means (named (codes "filter") keys) read.0.1.0 tests.0,
       few,
-      mean_of checker_in IsChecker checker_means (named (codes "checker") keys) read.0.1.1 tests.1,
+      meant,
       few_checkers,
+      apart_means read.0.0.1 (named (codes "checker") keys) read.0.1.1 meant none.1,
     )
 
 keys_rule : (line : ℕ) (keys : List Block) (rule : PlainRule) → AreOfRule keys rule → rule_of_keys line keys ≡ Ok rule
-unfolding rule_of_keys rule_parts table
-keys_rule line keys rule (only, id, kind, filters, few, checkers, few_checkers) =
+unfolding rule_of_keys rule_parts further_faults table
+keys_rule line keys rule (only, id, kind, filters, few, checkers, few_checkers, alone) =
+    let for_interests = says (codes "for") (codes "interest") keys in
+    let is = for_is keys kind.0 rule.kind kind.1 kind.2 in
     let filters_few = subst (λ n. n ≤ 16) (mean_length IsFilter (named (codes "filter") keys) rule.filters filters) few in
-    let checkers_few = subst (λ n. n ≤ 16) (mean_length IsChecker (named (codes "checker") keys) rule.checkers checkers) few_checkers in
+    let checkers_few = subst (λ n. n ≤ 16) (mean_length (IsChecker rule.kind) (named (codes "checker") keys) rule.checkers checkers) few_checkers in
     let fit = fits_again blocks.Rule keys refl only (has_once (codes "id") keys id.0 id.1, (has_once (codes "for") keys kind.0 kind.1, (filters_few, (checkers_few, tt)))) in
     let id_read = has_again kinds.BadValue id_in (codes "id") keys rule.id id.0 id.1 (id_meant id.0 rule.id id.2) in
     let kind_read = has_again kinds.BadValue kind_in (codes "for") keys rule.kind kind.0 kind.1 (kind_meant kind.0 rule.kind kind.2) in
     let filters_read = each_of filter_in IsFilter filter_meant (named (codes "filter") keys) rule.filters filters in
-    let checkers_read = each_of checker_in IsChecker checker_meant (named (codes "checker") keys) rule.checkers checkers in
-    rw (fit, id_read, kind_read, filters_read, checkers_read) refl
+    let checkers_read = each_of (checker_in for_interests) (IsChecker rule.kind) (checker_meant for_interests rule.kind is) (named (codes "checker") keys) rule.checkers checkers in
+    let clean = no_faults (walk_faults blocks.Rule keys ++ further_faults keys) (rw (no_fault (walk_faults blocks.Rule keys) fit, apart_meant rule.kind (named (codes "checker") keys) rule.checkers checkers alone) refl) in
+    rw (clean, id_read, kind_read, filters_read, checkers_read) refl
 
 pub rule_means : (key : Block) (rule : PlainRule) → rule_in key ≡ Ok rule → IsRule key rule
 unfolding rule_in

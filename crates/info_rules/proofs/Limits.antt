@@ -11,13 +11,13 @@ use Rattle.info_rules.specs.Tree.{Block, blocks_of}
 use Rattle.info_rules.specs.Rule.{PlainRule}
 use Rattle.info_rules.specs.Faults.{after, IsAmong, NoneIsSooner}
 use Rattle.info_rules.specs.Found.{Found, both, beside, needed, followed, each}
-use Rattle.info_rules.specs.Keys.{on_option, is_word, named, value_of, fault_at, shape_fault, block_in}
+use Rattle.info_rules.specs.Keys.{on_option, is_word, named, says, value_of, fault_at, shape_fault, block_in}
 use Rattle.info_rules.specs.Values.{◌>>=◌, id_in, value_in}
 use Rattle.info_rules.specs.ValueWords.{kind_in, is_id}
 use Rattle.info_rules.specs.Walk.{walk_faults}
 use Rattle.info_rules.specs.FilterBlock.{filter_in}
 use Rattle.info_rules.specs.CheckerBlock.{checker_in}
-use Rattle.info_rules.specs.RuleBlock.{head_in, rule_with, rule_parts, rule_of_keys, rule_in}
+use Rattle.info_rules.specs.RuleBlock.{head_in, rule_with, rule_parts, further_faults, rule_of_keys, rule_in}
 use Rattle.info_rules.specs.RuleFile.{id_key, same_id_faults, repeated_faults, id_faults}
 use Rattle.info_rules.specs.Limits.{HaveOwnIds}
 use Rattle.info_rules.proofs.Least.{least_of}
@@ -79,8 +79,8 @@ unfolding rule_in rule_of_keys rule_parts id_key
 id_of key rule is e =
     let line = key.0.line in
     let keys = blocks_of 1 key.1 in
-    let read = shown_ok rule_with (rule_parts line keys) rule (beside_ok (after None (walk_faults blocks.Rule keys)) _ rule (in_block 1 rule_of_keys key rule e)).1 in
-    let parts = both_ok (head_in line keys) (both (each filter_in (named (codes "filter") keys)) (each checker_in (named (codes "checker") keys))) read.0 read.1 in
+    let read = shown_ok rule_with (rule_parts line keys) rule (beside_ok (after None (walk_faults blocks.Rule keys ++ further_faults keys)) _ rule (in_block 1 rule_of_keys key rule e)).1 in
+    let parts = both_ok (head_in line keys) (both (each filter_in (named (codes "filter") keys)) (each (checker_in (says (codes "for") (codes "interest") keys)) (named (codes "checker") keys))) read.0 read.1 in
     let head = both_ok (needed line (value_in kinds.BadValue id_in (codes "id") keys)) (needed line (value_in kinds.BadValue kind_in (codes "for") keys)) read.0.0 parts.0 in
     let given = value_ok kinds.BadValue id_in (codes "id") keys read.0.0.0 (needed_ok line (value_in kinds.BadValue id_in (codes "id") keys) read.0.0.0 head.0) in
     let same : given.text ≡ rule.id = is_text given.text read.0.0.0 given.means ∙ ap (λ (r : PlainRule). r.id) read.2 in

@@ -11,7 +11,7 @@ use Rattle.info_rules.specs.Blocks.{BlockKind, Takes, Times, Once, UpTo, AnyNumb
 use Rattle.info_rules.specs.Tree.{Block, blocks_of}
 use Rattle.info_rules.specs.Faults.{after}
 use Rattle.info_rules.specs.Found.{Found, both, beside, needed, shown, then_made, each}
-use Rattle.info_rules.specs.Keys.{on_option, first_of, others_of, is_word, named, value_of, fault_at, many_faults, is_there, shape_fault, block_in}
+use Rattle.info_rules.specs.Keys.{on_option, first_of, others_of, is_word, named, value_of, fault_at, many_faults, says, is_there, shape_fault, block_in}
 use Rattle.info_rules.specs.Values.{given_in, read_at, value_in}
 use Rattle.info_rules.specs.Table.{PlainForm, form, table, is_closed}
 use Rattle.info_rules.specs.Walk.{unknown_faults, again_kind, again_faults, times_faults, walk_faults}
@@ -226,6 +226,10 @@ has_once word keys text h = rw h.1 refl
 pub has_there : (word : List ℕ) (keys : List Block) (text : List ℕ) → HasValue word keys text → is_there word keys ≡ true
 has_there word keys text h = rw h.1 refl
 
+-- if exactly one key is `word`, its value is the value that the keys say
+pub says_is : (word text value : List ℕ) (keys : List Block) → HasValue word keys value → says word text keys ≡ bytes_eq value text
+says_is word text value keys h = rw (h.1, h.3, h.2) refl
+
 no_first : {A : Type 0} (xs : List A) → first_of xs ≡ None → xs ≡ []
 no_first [] e = refl
 no_first (x ∷ xs) e = absurd cc
@@ -250,6 +254,35 @@ lacks_read {A = A} kind read word keys e = by_first (first_of (named word keys))
 pub lacks_again : {A : Type 0} (kind : RulesFaultKind) (read : List ℕ → Option A) (word : List ℕ) (keys : List Block) → Lacks word keys → value_in kind read word keys ≡ Ok None
 unfolding value_in
 lacks_again kind read word keys h = rw h refl
+
+pub lacks_there : (word : List ℕ) (keys : List Block) → is_there word keys ≡ false → Lacks word keys
+lacks_there word keys e = by_list (named word keys) e
+  where
+    by_list : (some : List Block) → is_some (first_of some) ≡ false → some ≡ []
+    by_list [] e = refl
+    by_list (key ∷ some) e = absurd cc
+
+-- if no key is `word`, the first key is not, and none of the others is
+lacks_head : (word : List ℕ) (key : Block) (keys : List Block) → Lacks word (key ∷ keys) → (key.0.key ≡ word → ⊥) × Lacks word keys
+lacks_head word key keys e = by_test (bytes_eq key.0.key word) refl e
+  where
+    by_test : (t : Bool) → bytes_eq key.0.key word ≡ t → cond t (key ∷ named word keys) (named word keys) ≡ [] → (key.0.key ≡ word → ⊥) × Lacks word keys
+    by_test true is e = absurd cc
+    by_test false is e = (λ same. let equal : bytes_eq key.0.key word ≡ true = (bytes_eq-Decides key.0.key word).1 same in absurd cc, e)
+
+-- if all keys are among three words, and no key is the second or the third, all keys are the first
+pub only_first : (word second third : List ℕ) (keys : List Block) → HasOnly (word ∷ second ∷ third ∷ []) keys → Lacks second keys → Lacks third keys → HasOnly (word ∷ []) keys
+only_first word second third [] h p q = tt
+only_first word second third (key ∷ keys) h p q =
+    let first = lacks_head second key keys p in
+    let other = lacks_head third key keys q in
+    (by_word first.0 other.0 h.0, only_first word second third keys h.1 first.1 other.1)
+  where
+    by_word : (key.0.key ≡ second → ⊥) → (key.0.key ≡ third → ⊥) → IsOneOf (word ∷ second ∷ third ∷ []) key.0.key → IsOneOf (word ∷ []) key.0.key
+    by_word not_second not_third (inl is) = inl is
+    by_word not_second not_third (inr (inl is)) = absurd (not_second is)
+    by_word not_second not_third (inr (inr (inl is))) = absurd (not_third is)
+    by_word not_second not_third (inr (inr (inr none))) = absurd none
 
 pub lacks_once : (word : List ℕ) (keys : List Block) → Lacks word keys → others_of (named word keys) ≡ []
 lacks_once word keys h = rw h refl

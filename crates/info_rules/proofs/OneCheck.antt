@@ -7,6 +7,7 @@ use Rattle.ndn_tlv.specs.Element.{Field}
 use Rattle.hmac_keys.specs.KeyFile.{NamedKey, AreApart, IsAmong}
 use Rattle.hmac_keys.specs.Mac.{Mac}
 use Rattle.ndn_packets.specs.Packet.{PlainLocator, Missing, KeyName, Digest, Other}
+use Rattle.info_rules.specs.declared.rule.Kind.TheVariants as kinds
 use Rattle.info_rules.specs.declared.rule.LocatorTest.{LocatorTest}
 use Rattle.info_rules.specs.declared.rule.Checker.{Checker}
 use Rattle.info_rules.specs.declared.rule.Checker.TheVariants as checkers
@@ -61,3 +62,4 @@ one_check keys (checkers.HmacSha256 test) signed x y apart =
     one_unless (signed.signature.info.kind ≡ 4) reasons.SigType x y (ChecksLocator keys test signed.signature.info.locator signed x) (ChecksLocator keys test signed.signature.info.locator signed y)
     (one_by_locator keys test signed.signature.info.locator signed x y apart)
 one_check keys checkers.Unsupported signed x y apart = λ p q. p ∙ sym q
+one_check keys checkers.Unverified signed x y apart = one_unless (signed.kind ≡ kinds.Data) reasons.SigType x y (x ≡ None) (y ≡ None) (λ p q. p ∙ sym q)

@@ -61,11 +61,12 @@ one_signature a b o p q = some_is (sym p ∙ q)
 
 one_signed : (packet : SeenPacket) (a b : PlainSigned) → IsSigned packet a → IsSigned packet b → a ≡ b
 one_signed packet a b p q =
+    let kind : a.kind ≡ b.kind = p.same_kind ∙ sym q.same_kind in
     let name : a.name ≡ b.name = p.named ∙ sym q.named in
     let signature : a.signature ≡ b.signature = one_signature a.signature b.signature packet.signature p.signature q.signature in
     let parts = one_covered packet.frame p.first p.second q.first q.second p.covers q.covers in
     let covered : a.covered ≡ b.covered = p.octets ∙ ((λ i. parts.0 i ++ parts.1 i) ∙ sym q.octets) in
-    λ i. record { name = name i; signature = signature i; covered = covered i }
+    λ i. record { kind = kind i; name = name i; signature = signature i; covered = covered i }
 
 fit : (packet : SeenPacket) (signed : PlainSigned) (reason : Reason) → IsSigned packet signed → IsUnfit packet reason → ⊥
 fit packet signed reasons.NotSigned p u = none packet.signature u p.signature

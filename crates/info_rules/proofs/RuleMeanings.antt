@@ -1,13 +1,17 @@
 -- The meaning of checkers.
-use Rattle.std.proofs.Common.{◌≡◌, ℕ, true, false, List, [], ◌∷◌, refl, sym, ap, subst, inl, inr}
-use Rattle.std.specs.Prelude.{Option, Some, None, Ok, codes}
+use Rattle.std.proofs.Common.{◌≡◌, ℕ, Bool, true, false, cond, List, [], ◌∷◌, refl, sym, ap, subst, ◌∙◌, inl, inr, arith}
+use Rattle.std.specs.Prelude.{Option, Some, None, Ok, bytes_eq, codes, ◌||◌}
+use Rattle.std.specs.List.{AllByRecursion, flat_map}
+use Rattle.info_rules.specs.declared.fault.RulesFault.{RulesFault}
 use Rattle.info_rules.specs.declared.fault.RulesFaultKind.TheVariants as kinds
+use Rattle.info_rules.specs.declared.rule.Kind.{Kind}
+use Rattle.info_rules.specs.declared.rule.Kind.TheVariants as packets
 use Rattle.info_rules.specs.declared.rule.LocatorTest.{LocatorTest}
 use Rattle.info_rules.specs.declared.rule.LocatorTest.TheVariants as locators
 use Rattle.info_rules.specs.declared.rule.Checker.{Checker}
 use Rattle.info_rules.specs.declared.rule.Checker.TheVariants as checkers
 use Rattle.info_rules.specs.declared.value_words.CheckerType.{CheckerType}
-use Rattle.info_rules.specs.declared.value_words.CheckerType.TheVariants.{Customized, Hierarchical}
+use Rattle.info_rules.specs.declared.value_words.CheckerType.TheVariants.{Customized, Hierarchical, Unverified}
 use Rattle.info_rules.specs.declared.value_words.SignatureType.{SignatureType}
 use Rattle.info_rules.specs.declared.value_words.SignatureType.TheVariants.{HmacSha256, Sha256, Asymmetric}
 use Rattle.info_rules.specs.Blocks as blocks
@@ -16,14 +20,17 @@ use Rattle.info_rules.specs.Table.{table}
 use Rattle.info_rules.specs.Walk.{walk_faults}
 use Rattle.info_rules.specs.Faults.{after}
 use Rattle.info_rules.specs.Found.{Found, both, beside, needed, then_made, each}
-use Rattle.info_rules.specs.Keys.{first_of, others_of, named, is_there, missing_unless}
+use Rattle.info_rules.specs.Rule.{is_unverified}
+use Rattle.info_rules.specs.Keys.{on_option, first_of, others_of, named, says, is_there, fault_at, missing_unless}
 use Rattle.info_rules.specs.ValueWords.{checker_type_in, signature_type_in}
 use Rattle.info_rules.specs.Values.{value_in}
 use Rattle.info_rules.specs.LocatorBlock.{locator_in}
-use Rattle.info_rules.specs.CheckerBlock.{is_hierarchical, block_of, has_locator, locator_of, checker_with, checker_made, checker_of, checker_in}
-use Rattle.info_rules.specs.Meaning.{HasOnly, Lacks, HasValue, HasBlock, IsLocator, TakesDigest, TakesAsymmetric, AsksAsTold, AsksByHierarchy, AsksOfSignature, IsChecker}
+use Rattle.info_rules.specs.CheckerBlock.{is_hierarchical, block_of, has_locator, locator_of, checker_with, checker_typed, checker_made, unverified_fault, checker_of, checker_in}
+use Rattle.info_rules.specs.RuleBlock.{states_unverified, further_fault}
+use Rattle.info_rules.specs.Meaning.{IsOneOf, HasOnly, Lacks, HasValue, HasBlock, Mean, IsKind, IsLocator, TakesDigest, TakesAsymmetric, AsksAsTold, AsksByHierarchy, AsksNothing, AsksOfSignature, IsChecker, StandAlone}
 use Rattle.info_rules.proofs.FoundParts.{both_ok, beside_ok, shown_ok, made_ok, needed_ok}
-use Rattle.info_rules.proofs.Meanings.{shown_again, fits, fits_again, has, has_again, has_once, lacks_read, lacks_again, lacks_once, block_ok, block_again, block_there, first_gave, none_gave, one_again, none_again, one_once}
+use Rattle.info_rules.proofs.Limits.{none_of_both}
+use Rattle.info_rules.proofs.Meanings.{shown_again, lacks, only_of, only_first, fits, fits_again, says_is, has, has_again, has_once, lacks_there, lacks_read, lacks_again, lacks_once, block_ok, block_again, block_there, first_gave, none_gave, one_again, none_again, one_once}
 use Rattle.info_rules.proofs.WordMeanings.{IsCheckerType, IsSignatureType, checker_type_means, signature_means, signature_meant}
 use Rattle.info_rules.proofs.CheckerMeanings.{ok_one, locator_means, locator_meant}
 
@@ -66,7 +73,7 @@ taken_once keys (Some Asymmetric) (inl h) = has_once (codes "sig-type") keys (co
 taken_once keys (Some Asymmetric) (inr h) = has_once (codes "sig-type") keys (codes "ecdsa-sha256") h
 
 -- the parts of a checker that was read without a fault
-record IsRead (line : ℕ) (keys : List Block) (checker : Checker) : Type 0 where
+record IsRead (for_interests : Bool) (line : ℕ) (keys : List Block) (checker : Checker) : Type 0 where
   type : CheckerType
   signature : Option SignatureType
   test : Option LocatorTest
@@ -75,18 +82,20 @@ record IsRead (line : ℕ) (keys : List Block) (checker : Checker) : Type 0 wher
   test_read : locator_of (is_hierarchical (Ok (Some type))) keys ≡ Ok test
   clean : after None (walk_faults (block_of (is_hierarchical (Ok (Some type)))) keys) ≡ None
   there : missing_unless (has_locator keys (Ok (Some type)) (Ok signature)) line ≡ None
-  made : checker_with line signature test ≡ Ok checker
+  alone : unverified_fault for_interests keys ≡ None
+  made : checker_typed line type signature test ≡ Ok checker
 
-is_read : (line : ℕ) (keys : List Block) (checker : Checker) → checker_of line keys ≡ Ok checker → IsRead line keys checker
+is_read : (for_interests : Bool) (line : ℕ) (keys : List Block) (checker : Checker) → checker_of for_interests line keys ≡ Ok checker → IsRead for_interests line keys checker
 unfolding checker_of
-is_read line keys checker e =
+is_read for_interests line keys checker e =
     let type = value_in kinds.BadValue checker_type_in (codes "type") keys in
     let signature = value_in kinds.BadValue signature_type_in (codes "sig-type") keys in
     let test = locator_of (is_hierarchical type) keys in
     let parts = then_made (checker_made line) (both (both (needed line type) signature) test) in
     let missing = missing_unless (has_locator keys type signature) line in
-    let all = beside_ok (after None (walk_faults (block_of (is_hierarchical type)) keys)) (beside missing parts) checker e in
-    let some = beside_ok missing parts checker all.1 in
+    let all = beside_ok (after None (walk_faults (block_of (is_hierarchical type)) keys)) (beside (unverified_fault for_interests keys) (beside missing parts)) checker e in
+    let stands = beside_ok (unverified_fault for_interests keys) (beside missing parts) checker all.1 in
+    let some = beside_ok missing parts checker stands.1 in
     let made = made_ok (checker_made line) (both (both (needed line type) signature) test) checker some.1 in
     let two = both_ok (both (needed line type) signature) test made.0 made.1 in
     let one = both_ok (needed line type) signature made.0.0 two.0 in
@@ -101,12 +110,47 @@ is_read line keys checker e =
       clean = subst (λ (t : Found (Option CheckerType)). after None (walk_faults (block_of (is_hierarchical t)) keys) ≡ None) type_is all.0;
       there = subst (λ (s : Found (Option SignatureType)). missing_unless (has_locator keys (Ok (Some made.0.0.0)) s) line ≡ None) one.1
           (subst (λ (t : Found (Option CheckerType)). missing_unless (has_locator keys t signature) line ≡ None) type_is some.0);
+      alone = stands.0;
       made = made.2;
     }
 
-read_whole : (line : ℕ) (keys : List Block) (checker : Checker) → IsRead line keys checker → checker_of line keys ≡ Ok checker
+read_whole : (for_interests : Bool) (line : ℕ) (keys : List Block) (checker : Checker) → IsRead for_interests line keys checker → checker_of for_interests line keys ≡ Ok checker
 unfolding checker_of
-read_whole line keys checker read = rw (read.type_read, read.signature_read, read.clean, read.there, read.test_read) read.made
+read_whole for_interests line keys checker read = rw (read.type_read, read.signature_read, read.clean, read.alone, read.there, read.test_read) read.made
+
+-- ---- unverified checkers
+
+abbrev pub is_interest : Kind → Bool
+is_interest packets.Data = false
+is_interest packets.Interest = true
+
+data_alone : (kind : Kind) (for_interests : Bool) → for_interests ≡ is_interest kind → for_interests ≡ false → kind ≡ packets.Data
+data_alone packets.Data for_interests is off = refl
+data_alone packets.Interest for_interests is off = absurd cc
+
+none_of_three : (a b c : Bool) (fault : RulesFault) → cond {A = Option RulesFault} (a || b || c) (Some fault) None ≡ None → (a ≡ false) × (b ≡ false) × (c ≡ false)
+none_of_three true b c fault e = absurd cc
+none_of_three false true c fault e = absurd cc
+none_of_three false false true fault e = absurd cc
+none_of_three false false false fault e = (refl, refl, refl)
+
+-- an unverified checker without a fault is in a rule for Data, and has no signature type and no key
+-- locator
+stands_alone : (for_interests : Bool) (keys : List Block) → HasValue (codes "type") keys (codes "unverified") → unverified_fault for_interests keys ≡ None → (for_interests ≡ false) × Lacks (codes "sig-type") keys × Lacks (codes "key-locator") keys
+unfolding unverified_fault
+stands_alone for_interests keys h e =
+    let told : cond {A = Option RulesFault} (for_interests || is_there (codes "sig-type") keys || is_there (codes "key-locator") keys) (Some (fault_at kinds.BadValue h.0)) None ≡ None = rw (h.1, h.3, h.2) at e in
+    let free = none_of_three for_interests (is_there (codes "sig-type") keys) (is_there (codes "key-locator") keys) (fault_at kinds.BadValue h.0) told in
+    (free.0, lacks_there (codes "sig-type") keys free.1, lacks_there (codes "key-locator") keys free.2)
+
+alone_stands : (for_interests : Bool) (keys : List Block) → HasValue (codes "type") keys (codes "unverified") → for_interests ≡ false → Lacks (codes "sig-type") keys → Lacks (codes "key-locator") keys → unverified_fault for_interests keys ≡ None
+unfolding unverified_fault
+alone_stands for_interests keys h off signature locator = rw (h.1, h.3, h.2, off, signature, locator) refl
+
+-- a checker of another type does not have the fault of an unverified checker
+other_type : (for_interests : Bool) (keys : List Block) (word : List ℕ) → HasValue (codes "type") keys word → bytes_eq word (codes "unverified") ≡ false → unverified_fault for_interests keys ≡ None
+unfolding unverified_fault
+other_type for_interests keys word h differs = rw (h.1, h.3, h.2, differs) refl
 
 type_has : (keys : List Block) (type : CheckerType) (word : List ℕ) → others_of (named (codes "type") keys) ≡ [] → ((text : List ℕ) → IsCheckerType text type → text ≡ word) → value_in kinds.BadValue checker_type_in (codes "type") keys ≡ Ok (Some type)
     → HasValue (codes "type") keys word
@@ -142,33 +186,39 @@ as_told line keys checker tests (Some Asymmetric) h once e there None is made = 
 as_told line keys checker tests (Some Asymmetric) h once e there (Some test) is made =
     subst (AsksAsTold keys) (ok_one (Ok checkers.Unsupported) checkers.Unsupported checker refl made) (h, (test, locator_has keys tests test once e is))
 
-told : (line : ℕ) (keys : List Block) (checker : Checker) (type : CheckerType) (signature : Option SignatureType) (test : Option LocatorTest) → value_in kinds.BadValue checker_type_in (codes "type") keys ≡ Ok (Some type)
+told : (for_interests : Bool) (kind : Kind) → for_interests ≡ is_interest kind → (line : ℕ) (keys : List Block) (checker : Checker) (type : CheckerType) (signature : Option SignatureType) (test : Option LocatorTest) → value_in kinds.BadValue checker_type_in (codes "type") keys ≡ Ok (Some type)
     → value_in kinds.BadValue signature_type_in (codes "sig-type") keys ≡ Ok signature → locator_of (is_hierarchical (Ok (Some type))) keys ≡ Ok test → after None (walk_faults (block_of (is_hierarchical (Ok (Some type)))) keys) ≡ None
-    → missing_unless (has_locator keys (Ok (Some type)) (Ok signature)) line ≡ None → checker_with line signature test ≡ Ok checker → AsksOfSignature keys checker
+    → missing_unless (has_locator keys (Ok (Some type)) (Ok signature)) line ≡ None → unverified_fault for_interests keys ≡ None → checker_typed line type signature test ≡ Ok checker → AsksOfSignature kind keys checker
 unfolding table
-told line keys checker Customized signature test t s l clean there made =
+told for_interests kind is line keys checker Customized signature test t s l clean there alone made =
     let fit = fits blocks.Customized keys refl clean in
     let read = shown_ok first_of (each locator_in (named (codes "key-locator") keys)) test l in
     inl (fit.0, type_has keys Customized (codes "customized") fit.1.0 (λ text is. is) t, as_told line keys checker read.0 signature (takes keys signature fit.1.1.0 s) fit.1.1.1.0 read.1 there test read.2 made)
-told line keys checker Hierarchical signature test t s l clean there made =
+told for_interests kind is line keys checker Hierarchical signature test t s l clean there alone made =
     let fit = fits blocks.Hierarchical keys refl clean in
     let same : test ≡ Some locators.Hierarchical = cc in
-    inr (fit.0, type_has keys Hierarchical (codes "hierarchical") fit.1.0 (λ text is. is) t, by_hierarchy line keys checker signature (takes keys signature fit.1.1.0 s) (subst (λ (o : Option LocatorTest). checker_with line signature o ≡ Ok checker) same made))
+    inr (inl (fit.0, type_has keys Hierarchical (codes "hierarchical") fit.1.0 (λ text is. is) t, by_hierarchy line keys checker signature (takes keys signature fit.1.1.0 s) (subst (λ (o : Option LocatorTest). checker_with line signature o ≡ Ok checker) same made)))
+told for_interests kind is line keys checker Unverified signature test t s l clean there alone made =
+    let fit = fits blocks.Customized keys refl clean in
+    let type = type_has keys Unverified (codes "unverified") fit.1.0 (λ text is. is) t in
+    let free = stands_alone for_interests keys type alone in
+    let only = only_first (codes "type") (codes "sig-type") (codes "key-locator") keys fit.0 free.1 free.2 in
+    inr (inr (data_alone kind for_interests is free.0, only, type, sym (ok_one (Ok checkers.Unverified) checkers.Unverified checker refl made)))
 
-pub checker_means : (key : Block) (checker : Checker) → checker_in key ≡ Ok checker → IsChecker key checker
+pub checker_means : (for_interests : Bool) (kind : Kind) → for_interests ≡ is_interest kind → (key : Block) (checker : Checker) → checker_in for_interests key ≡ Ok checker → IsChecker kind key checker
 unfolding checker_in
-checker_means key checker e =
-    let block = block_ok 2 checker_of key checker e in
-    let read = is_read key.0.line (blocks_of 2 key.1) checker block.1 in
-    (block.0, told key.0.line (blocks_of 2 key.1) checker read.type read.signature read.test read.type_read read.signature_read read.test_read read.clean read.there read.made)
+checker_means for_interests kind is key checker e =
+    let block = block_ok 2 (checker_of for_interests) key checker e in
+    let read = is_read for_interests key.0.line (blocks_of 2 key.1) checker block.1 in
+    (block.0, told for_interests kind is key.0.line (blocks_of 2 key.1) checker read.type read.signature read.test read.type_read read.signature_read read.test_read read.clean read.there read.alone read.made)
 
 -- ---- if keys mean a checker, this checker is read from them
 
-customized : (line : ℕ) (keys : List Block) (checker : Checker) (signature : Option SignatureType) (tests : List LocatorTest) → HasOnly (codes "type" ∷ codes "sig-type" ∷ codes "key-locator" ∷ []) keys → HasValue (codes "type") keys (codes "customized")
+customized : (for_interests : Bool) (line : ℕ) (keys : List Block) (checker : Checker) (signature : Option SignatureType) (tests : List LocatorTest) → HasOnly (codes "type" ∷ codes "sig-type" ∷ codes "key-locator" ∷ []) keys → HasValue (codes "type") keys (codes "customized")
     → Takes signature keys → others_of (named (codes "key-locator") keys) ≡ [] → each locator_in (named (codes "key-locator") keys) ≡ Ok tests → has_locator keys (Ok (Some Customized)) (Ok signature) ≡ true
-    → checker_with line signature (first_of tests) ≡ Ok checker → checker_of line keys ≡ Ok checker
+    → checker_with line signature (first_of tests) ≡ Ok checker → checker_of for_interests line keys ≡ Ok checker
 unfolding table
-customized line keys checker signature tests only type h once e there made = read_whole line keys checker (record {
+customized for_interests line keys checker signature tests only type h once e there made = read_whole for_interests line keys checker (record {
   type = Customized;
   signature = signature;
   test = first_of tests;
@@ -177,13 +227,14 @@ customized line keys checker signature tests only type h once e there made = rea
   test_read = shown_again first_of (each locator_in (named (codes "key-locator") keys)) tests e;
   clean = fits_again blocks.Customized keys refl only (has_once (codes "type") keys (codes "customized") type, (taken_once keys signature h, (once, tt)));
   there = rw there refl;
+  alone = other_type for_interests keys (codes "customized") type refl;
   made = made;
 })
 
-hierarchical : (line : ℕ) (keys : List Block) (checker : Checker) (signature : Option SignatureType) → HasOnly (codes "type" ∷ codes "sig-type" ∷ []) keys → HasValue (codes "type") keys (codes "hierarchical") → Takes signature keys
-    → checker_with line signature (Some locators.Hierarchical) ≡ Ok checker → checker_of line keys ≡ Ok checker
+hierarchical : (for_interests : Bool) (line : ℕ) (keys : List Block) (checker : Checker) (signature : Option SignatureType) → HasOnly (codes "type" ∷ codes "sig-type" ∷ []) keys → HasValue (codes "type") keys (codes "hierarchical") → Takes signature keys
+    → checker_with line signature (Some locators.Hierarchical) ≡ Ok checker → checker_of for_interests line keys ≡ Ok checker
 unfolding table
-hierarchical line keys checker signature only type h made = read_whole line keys checker (record {
+hierarchical for_interests line keys checker signature only type h made = read_whole for_interests line keys checker (record {
   type = Hierarchical;
   signature = signature;
   test = Some locators.Hierarchical;
@@ -192,27 +243,138 @@ hierarchical line keys checker signature only type h made = read_whole line keys
   test_read = refl;
   clean = fits_again blocks.Hierarchical keys refl only (has_once (codes "type") keys (codes "hierarchical") type, (taken_once keys signature h, tt));
   there = refl;
+  alone = other_type for_interests keys (codes "hierarchical") type refl;
   made = made;
 })
 
 -- if `keys` mean a customized checker with a key locator, this checker is read from them
-located : (line : ℕ) (keys : List Block) (checker : Checker) (signature : Option SignatureType) (test : LocatorTest) → HasOnly (codes "type" ∷ codes "sig-type" ∷ codes "key-locator" ∷ []) keys → HasValue (codes "type") keys (codes "customized")
-    → Takes signature keys → HasBlock IsLocator (codes "key-locator") keys test → has_locator keys (Ok (Some Customized)) (Ok signature) ≡ true → checker_with line signature (Some test) ≡ Ok checker → checker_of line keys ≡ Ok checker
-located line keys checker signature test only type h block there made =
-    customized line keys checker signature (test ∷ []) only type h (one_once (codes "key-locator") keys block.0 block.1) (one_again locator_in (codes "key-locator") keys block.0 test block.1 (locator_meant block.0 test block.2)) there made
+located : (for_interests : Bool) (line : ℕ) (keys : List Block) (checker : Checker) (signature : Option SignatureType) (test : LocatorTest) → HasOnly (codes "type" ∷ codes "sig-type" ∷ codes "key-locator" ∷ []) keys → HasValue (codes "type") keys (codes "customized")
+    → Takes signature keys → HasBlock IsLocator (codes "key-locator") keys test → has_locator keys (Ok (Some Customized)) (Ok signature) ≡ true → checker_with line signature (Some test) ≡ Ok checker → checker_of for_interests line keys ≡ Ok checker
+located for_interests line keys checker signature test only type h block there made =
+    customized for_interests line keys checker signature (test ∷ []) only type h (one_once (codes "key-locator") keys block.0 block.1) (one_again locator_in (codes "key-locator") keys block.0 test block.1 (locator_meant block.0 test block.2)) there made
 
-keys_checker : (line : ℕ) (keys : List Block) (checker : Checker) → AsksOfSignature keys checker → checker_of line keys ≡ Ok checker
-keys_checker line keys (checkers.HmacSha256 test) (inl (only, type, (inl h, block))) = located line keys (checkers.HmacSha256 test) None test only type h block (block_there (codes "key-locator") keys block.0 block.1) refl
-keys_checker line keys (checkers.HmacSha256 test) (inl (only, type, (inr h, block))) = located line keys (checkers.HmacSha256 test) (Some HmacSha256) test only type h block (block_there (codes "key-locator") keys block.0 block.1) refl
-keys_checker line keys checkers.Sha256 (inl (only, type, (h, inl none))) =
-    customized line keys checkers.Sha256 (Some Sha256) [] only type h (lacks_once (codes "key-locator") keys none) (none_again locator_in (codes "key-locator") keys none) refl refl
-keys_checker line keys checkers.Sha256 (inl (only, type, (h, inr (test, block)))) = located line keys checkers.Sha256 (Some Sha256) test only type h block refl refl
-keys_checker line keys checkers.Unsupported (inl (only, type, (h, (test, block)))) = located line keys checkers.Unsupported (Some Asymmetric) test only type h block (block_there (codes "key-locator") keys block.0 block.1) refl
-keys_checker line keys (checkers.HmacSha256 test) (inr (only, type, (inl h, is))) = hierarchical line keys (checkers.HmacSha256 test) None only type h (ap (λ (t : LocatorTest). Ok (checkers.HmacSha256 t)) (sym is))
-keys_checker line keys (checkers.HmacSha256 test) (inr (only, type, (inr h, is))) = hierarchical line keys (checkers.HmacSha256 test) (Some HmacSha256) only type h (ap (λ (t : LocatorTest). Ok (checkers.HmacSha256 t)) (sym is))
-keys_checker line keys checkers.Sha256 (inr (only, type, h)) = hierarchical line keys checkers.Sha256 (Some Sha256) only type h refl
-keys_checker line keys checkers.Unsupported (inr (only, type, h)) = hierarchical line keys checkers.Unsupported (Some Asymmetric) only type h refl
+as_customized : (for_interests : Bool) (line : ℕ) (keys : List Block) (checker : Checker) → HasOnly (codes "type" ∷ codes "sig-type" ∷ codes "key-locator" ∷ []) keys → HasValue (codes "type") keys (codes "customized") → AsksAsTold keys checker
+    → checker_of for_interests line keys ≡ Ok checker
+as_customized for_interests line keys (checkers.HmacSha256 test) only type (inl h, block) = located for_interests line keys (checkers.HmacSha256 test) None test only type h block (block_there (codes "key-locator") keys block.0 block.1) refl
+as_customized for_interests line keys (checkers.HmacSha256 test) only type (inr h, block) = located for_interests line keys (checkers.HmacSha256 test) (Some HmacSha256) test only type h block (block_there (codes "key-locator") keys block.0 block.1) refl
+as_customized for_interests line keys checkers.Sha256 only type (h, inl none) =
+    customized for_interests line keys checkers.Sha256 (Some Sha256) [] only type h (lacks_once (codes "key-locator") keys none) (none_again locator_in (codes "key-locator") keys none) refl refl
+as_customized for_interests line keys checkers.Sha256 only type (h, inr (test, block)) = located for_interests line keys checkers.Sha256 (Some Sha256) test only type h block refl refl
+as_customized for_interests line keys checkers.Unsupported only type (h, (test, block)) = located for_interests line keys checkers.Unsupported (Some Asymmetric) test only type h block (block_there (codes "key-locator") keys block.0 block.1) refl
+as_customized for_interests line keys checkers.Unverified only type h = absurd h
 
-pub checker_meant : (key : Block) (checker : Checker) → IsChecker key checker → checker_in key ≡ Ok checker
+as_hierarchical : (for_interests : Bool) (line : ℕ) (keys : List Block) (checker : Checker) → HasOnly (codes "type" ∷ codes "sig-type" ∷ []) keys → HasValue (codes "type") keys (codes "hierarchical") → AsksByHierarchy keys checker
+    → checker_of for_interests line keys ≡ Ok checker
+as_hierarchical for_interests line keys (checkers.HmacSha256 test) only type (inl h, is) = hierarchical for_interests line keys (checkers.HmacSha256 test) None only type h (ap (λ (t : LocatorTest). Ok (checkers.HmacSha256 t)) (sym is))
+as_hierarchical for_interests line keys (checkers.HmacSha256 test) only type (inr h, is) = hierarchical for_interests line keys (checkers.HmacSha256 test) (Some HmacSha256) only type h (ap (λ (t : LocatorTest). Ok (checkers.HmacSha256 t)) (sym is))
+as_hierarchical for_interests line keys checkers.Sha256 only type h = hierarchical for_interests line keys checkers.Sha256 (Some Sha256) only type h refl
+as_hierarchical for_interests line keys checkers.Unsupported only type h = hierarchical for_interests line keys checkers.Unsupported (Some Asymmetric) only type h refl
+as_hierarchical for_interests line keys checkers.Unverified only type h = absurd h
+
+one_among : (word second third other : List ℕ) → IsOneOf (word ∷ []) other → IsOneOf (word ∷ second ∷ third ∷ []) other
+one_among word second third other (inl is) = inl is
+one_among word second third other (inr none) = absurd none
+
+as_unverified : (for_interests : Bool) (kind : Kind) → for_interests ≡ is_interest kind → (line : ℕ) (keys : List Block) (checker : Checker) → AsksNothing kind keys checker → checker_of for_interests line keys ≡ Ok checker
+unfolding table
+as_unverified for_interests kind is line keys checker (data_is, only, type, same) =
+    let signature = lacks (codes "type" ∷ []) (codes "sig-type") keys refl only in
+    let locator = lacks (codes "type" ∷ []) (codes "key-locator") keys refl only in
+    let few = only_of (codes "type" ∷ []) (codes "type" ∷ codes "sig-type" ∷ codes "key-locator" ∷ []) keys (one_among (codes "type") (codes "sig-type") (codes "key-locator")) only in
+    read_whole for_interests line keys checker (record {
+      type = Unverified;
+      signature = None;
+      test = None;
+      type_read = has_again kinds.BadValue checker_type_in (codes "type") keys Unverified (codes "unverified") type refl;
+      signature_read = lacks_again kinds.BadValue signature_type_in (codes "sig-type") keys signature;
+      test_read = shown_again first_of (each locator_in (named (codes "key-locator") keys)) [] (none_again locator_in (codes "key-locator") keys locator);
+      clean = fits_again blocks.Customized keys refl few (has_once (codes "type") keys (codes "unverified") type, (lacks_once (codes "sig-type") keys signature, (lacks_once (codes "key-locator") keys locator, tt)));
+      there = refl;
+      alone = alone_stands for_interests keys type (is ∙ ap is_interest data_is) signature locator;
+      made = ap Ok (sym same);
+    })
+
+keys_checker : (for_interests : Bool) (kind : Kind) → for_interests ≡ is_interest kind → (line : ℕ) (keys : List Block) (checker : Checker) → AsksOfSignature kind keys checker → checker_of for_interests line keys ≡ Ok checker
+keys_checker for_interests kind is line keys checker (inl (only, type, h)) = as_customized for_interests line keys checker only type h
+keys_checker for_interests kind is line keys checker (inr (inl (only, type, h))) = as_hierarchical for_interests line keys checker only type h
+keys_checker for_interests kind is line keys checker (inr (inr h)) = as_unverified for_interests kind is line keys checker h
+
+pub checker_meant : (for_interests : Bool) (kind : Kind) → for_interests ≡ is_interest kind → (key : Block) (checker : Checker) → IsChecker kind key checker → checker_in for_interests key ≡ Ok checker
 unfolding checker_in
-checker_meant key checker h = block_again 2 checker_of key checker h.0 (keys_checker key.0.line (blocks_of 2 key.1) checker h.1)
+checker_meant for_interests kind is key checker h = block_again 2 (checker_of for_interests) key checker h.0 (keys_checker for_interests kind is key.0.line (blocks_of 2 key.1) checker h.1)
+
+-- the kind of packet that a rule is for, as its keys say it
+pub for_is : (keys : List Block) (text : List ℕ) (kind : Kind) → HasValue (codes "for") keys text → IsKind text kind → says (codes "for") (codes "interest") keys ≡ is_interest kind
+for_is keys text packets.Data h is = says_is (codes "for") (codes "interest") text keys h ∙ ap (λ (t : List ℕ). bytes_eq t (codes "interest")) is
+for_is keys text packets.Interest h is = says_is (codes "for") (codes "interest") text keys h ∙ ap (λ (t : List ℕ). bytes_eq t (codes "interest")) is
+
+-- ---- checkers beside an unverified one
+
+told_verified : (keys : List Block) (checker : Checker) → AsksAsTold keys checker → false ≡ is_unverified checker
+told_verified keys checkers.Sha256 h = refl
+told_verified keys (checkers.HmacSha256 test) h = refl
+told_verified keys checkers.Unsupported h = refl
+told_verified keys checkers.Unverified h = absurd h
+
+hierarchy_verified : (keys : List Block) (checker : Checker) → AsksByHierarchy keys checker → false ≡ is_unverified checker
+hierarchy_verified keys checkers.Sha256 h = refl
+hierarchy_verified keys (checkers.HmacSha256 test) h = refl
+hierarchy_verified keys checkers.Unsupported h = refl
+hierarchy_verified keys checkers.Unverified h = absurd h
+
+-- a key states an unverified checker exactly if its meaning is one
+key_is : (kind : Kind) (key : Block) (checker : Checker) → IsChecker kind key checker → states_unverified key ≡ is_unverified checker
+unfolding states_unverified
+key_is kind key checker (opens, inl (only, type, h)) = says_is (codes "type") (codes "unverified") (codes "customized") (blocks_of 2 key.1) type ∙ told_verified (blocks_of 2 key.1) checker h
+key_is kind key checker (opens, inr (inl (only, type, h))) = says_is (codes "type") (codes "unverified") (codes "hierarchical") (blocks_of 2 key.1) type ∙ hierarchy_verified (blocks_of 2 key.1) checker h
+key_is kind key checker (opens, inr (inr (data_is, only, type, same))) = says_is (codes "type") (codes "unverified") (codes "unverified") (blocks_of 2 key.1) type ∙ ap is_unverified (sym same)
+
+-- the faults of the checkers of a rule, given the keys of these checkers
+abbrev pub among_faults : List Block → List RulesFault
+among_faults keys = on_option (λ (first : Block). flat_map (further_fault (states_unverified first)) (others_of keys)) [] (first_of keys)
+
+no_further : (first : Bool) (key : Block) → further_fault first key ≡ [] → (first ≡ false) × (states_unverified key ≡ false)
+no_further first key e = by_tests first (states_unverified key) e
+  where
+    by_tests : (s t : Bool) → cond {A = List RulesFault} (s || t) (fault_at kinds.BadValue key ∷ []) [] ≡ [] → (s ≡ false) × (t ≡ false)
+    by_tests true t e = absurd cc
+    by_tests false true e = absurd cc
+    by_tests false false e = (refl, refl)
+
+all_verified : (kind : Kind) (first : Bool) (keys : List Block) (all : List Checker) → Mean (IsChecker kind) keys all → flat_map (further_fault first) keys ≡ [] → AllByRecursion (λ checker. is_unverified checker ≡ false) all
+all_verified kind first [] [] means e = tt
+all_verified kind first [] (checker ∷ all) means e = absurd means
+all_verified kind first (key ∷ keys) [] means e = absurd means
+all_verified kind first (key ∷ keys) (checker ∷ all) means e =
+    let none = none_of_both (further_fault first key) (flat_map (further_fault first) keys) e in
+    (sym (key_is kind key checker means.0) ∙ (no_further first key none.0).1, all_verified kind first keys all means.1 none.1)
+
+verified_all : (kind : Kind) (first : Bool) (keys : List Block) (all : List Checker) → first ≡ false → Mean (IsChecker kind) keys all → AllByRecursion (λ checker. is_unverified checker ≡ false) all → flat_map (further_fault first) keys ≡ []
+verified_all kind first [] [] off means every = refl
+verified_all kind first [] (checker ∷ all) off means every = absurd means
+verified_all kind first (key ∷ keys) [] off means every = absurd means
+verified_all kind first (key ∷ keys) (checker ∷ all) off means every =
+    let verified : states_unverified key ≡ false = key_is kind key checker means.0 ∙ every.0 in
+    let others = verified_all kind first keys all off means.1 every.1 in
+    rw (off, verified) others
+
+pub apart_means : (kind : Kind) (keys : List Block) (all : List Checker) → Mean (IsChecker kind) keys all → among_faults keys ≡ [] → StandAlone all
+apart_means kind [] [] means e = inl (omega arith)
+apart_means kind [] (checker ∷ all) means e = absurd means
+apart_means kind (key ∷ keys) [] means e = absurd means
+apart_means kind (key ∷ []) (checker ∷ []) means e = inl (omega arith)
+apart_means kind (key ∷ []) (checker ∷ other ∷ all) means e = absurd means.1
+apart_means kind (key ∷ second ∷ keys) (checker ∷ []) means e = absurd means.1
+apart_means kind (key ∷ second ∷ keys) (checker ∷ other ∷ all) means e =
+    let first = states_unverified key in
+    let none = none_of_both (further_fault first second) (flat_map (further_fault first) keys) e in
+    inr (sym (key_is kind key checker means.0) ∙ (no_further first second none.0).0, all_verified kind first (second ∷ keys) (other ∷ all) means.1 e)
+
+pub apart_meant : (kind : Kind) (keys : List Block) (all : List Checker) → Mean (IsChecker kind) keys all → StandAlone all → among_faults keys ≡ []
+apart_meant kind [] all means alone = refl
+apart_meant kind (key ∷ keys) [] means alone = absurd means
+apart_meant kind (key ∷ []) (checker ∷ all) means alone = refl
+apart_meant kind (key ∷ second ∷ keys) (checker ∷ []) means alone = absurd means.1
+apart_meant kind (key ∷ second ∷ keys) (checker ∷ other ∷ all) means (inl short) = absurd (omega (arith, short))
+apart_meant kind (key ∷ second ∷ keys) (checker ∷ other ∷ all) means (inr every) =
+    verified_all kind (states_unverified key) (second ∷ keys) (other ∷ all) (key_is kind key checker means.0 ∙ every.0) means.1 every.1

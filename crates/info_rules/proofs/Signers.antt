@@ -1,8 +1,10 @@
--- The signature of an allowed packet states its signer.
-use Rattle.std.proofs.Common.{◌≡◌, List, refl, subst, inl, inr}
-use Rattle.std.specs.Prelude.{Some, None}
+-- The signature of an allowed packet states its signer, unless an unverified checker passes a Data.
+use Rattle.std.proofs.Common.{◌≡◌, ℕ, zero, suc, ◌<◌, Bool, true, false, List, [], ◌∷◌, length, get_or, refl, sym, ap, subst, ◌∙◌, ◌⊎◌, inl, inr, arith}
+use Rattle.std.specs.Prelude.{Some, None, ◌||◌}
+use Rattle.std.specs.List.{list_any}
 use Rattle.hmac_keys.specs.KeyFile.{NamedKey}
-use Rattle.ndn_packets.specs.Packet.{PlainLocator, Missing, KeyName, Digest, Other, PlainFrame, AnInterest, AData, ANack, Idle}
+use Rattle.ndn_packets.specs.Packet.{PlainLocator, Missing, KeyName, Digest, Other, PlainInterest, PlainData, AnInterest, AData}
+use Rattle.info_rules.specs.declared.rule.Kind.TheVariants as kinds
 use Rattle.info_rules.specs.declared.rule.LocatorTest.{LocatorTest}
 use Rattle.info_rules.specs.declared.rule.Checker.{Checker}
 use Rattle.info_rules.specs.declared.rule.Checker.TheVariants as checkers
@@ -10,7 +12,7 @@ use Rattle.info_rules.specs.declared.rules.RuleNo.{RuleNo}
 use Rattle.info_rules.specs.declared.decision.Reason.{Reason}
 use Rattle.info_rules.specs.declared.decision.Reason.TheVariants as reasons
 use Rattle.info_rules.specs.declared.decision.Decision.TheVariants as decisions
-use Rattle.info_rules.specs.Rule.{PlainRule}
+use Rattle.info_rules.specs.Rule.{PlainRule, is_unverified, is_unverified_at}
 use Rattle.info_rules.specs.Seen.{PlainSigned}
 use Rattle.info_rules.specs.Checks.{Unless, ChecksKey, ChecksLocator, Checks}
 use Rattle.info_rules.specs.Decides.{Decides}
@@ -35,21 +37,41 @@ key_named keys test signed Missing is h = no_reason reasons.KeyLocator h
 key_named keys test signed Digest is h = no_reason reasons.KeyLocator h
 key_named keys test signed Other is h = no_reason reasons.KeyLocator h
 
-signer_of : (keys : List NamedKey) (checker : Checker) (signed : PlainSigned) → Checks keys checker signed None → NamesSigner keys signed.signature
-signer_of keys checkers.Sha256 signed h = inl (passed reasons.SigType h).0
+-- a packet that passes the checker has a known signer, or it is a Data and the checker is unverified
+signer_of : (keys : List NamedKey) (checker : Checker) (signed : PlainSigned) → Checks keys checker signed None → NamesSigner keys signed.signature ⊎ ((signed.kind ≡ kinds.Data) × (is_unverified checker ≡ true))
+signer_of keys checkers.Sha256 signed h = inl (inl (passed reasons.SigType h).0)
 signer_of keys (checkers.HmacSha256 test) signed h =
     let both = passed reasons.SigType h in
-    inr (both.0, key_named keys test signed signed.signature.info.locator refl both.1)
+    inl (inr (both.0, key_named keys test signed signed.signature.info.locator refl both.1))
 signer_of keys checkers.Unsupported signed h = no_reason reasons.SigType h
+signer_of keys checkers.Unverified signed h = inr ((passed reasons.SigType h).0, refl)
 
-pub signer_named : (rules : List PlainRule) (keys : List NamedKey) (packet : PlainFrame) (rule : RuleNo) → Decides rules keys packet (decisions.Allowed rule) → NamesItsSigner keys packet
-signer_named rules keys (AnInterest whole i) rule d =
-    (d.2.0.signature, d.2.1.signature, d.2.1.timed, signer_of keys d.2.2.1 d.2.0 d.2.2.4)
-signer_named rules keys (AData whole packet) rule d =
-    let same : d.2.0.signature ≡ packet.signature = of_some d.2.1.signature in
-    subst (NamesSigner keys) same (signer_of keys d.2.2.1 d.2.0 d.2.2.4)
+or_true : (s t : Bool) → t ≡ true → (s || t) ≡ true
+or_true true t e = refl
+or_true false t e = e
+
+-- if one of the checkers is unverified, then some checker is
+any_there : (all : List Checker) (k : ℕ) (x : Checker) → k < length all → get_or all k x ≡ x → is_unverified x ≡ true → list_any is_unverified all ≡ true
+any_there [] k x low is e = absurd (omega (arith, low))
+any_there (y ∷ all) zero x low is e = let here : is_unverified y ≡ true = ap is_unverified is ∙ e in rw here refl
+any_there (y ∷ all) (suc k) x low is e = or_true (is_unverified y) (list_any is_unverified all) (any_there all k x (omega (arith, low)) is e)
+
+pub interest_named : (rules : List PlainRule) (keys : List NamedKey) (whole : List ℕ) (i : PlainInterest) (rule : RuleNo) → Decides rules keys (AnInterest whole i) (decisions.Allowed rule) → NamesItsSigner keys (AnInterest whole i)
+interest_named rules keys whole i rule d = by_signer (signer_of keys d.2.2.1 d.2.0 d.2.2.4)
+  where
+    by_signer : NamesSigner keys d.2.0.signature ⊎ ((d.2.0.kind ≡ kinds.Data) × (is_unverified d.2.2.1 ≡ true)) → NamesItsSigner keys (AnInterest whole i)
+    by_signer (inl names) = (d.2.0.signature, d.2.1.signature, d.2.1.timed, names)
+    by_signer (inr unverified) = let interest : kinds.Interest ≡ kinds.Data = sym d.2.1.same_kind ∙ unverified.0 in absurd cc
+
+pub data_named : (rules : List PlainRule) (keys : List NamedKey) (whole : List ℕ) (packet : PlainData) (rule : RuleNo) → Decides rules keys (AData whole packet) (decisions.Allowed rule)
+    → NamesItsSigner keys (AData whole packet) ⊎ (is_unverified_at rules rule.0 ≡ true)
+data_named rules keys whole packet rule d = by_signer (signer_of keys d.2.2.1 d.2.0 d.2.2.4)
   where
     of_some : Some packet.signature ≡ Some d.2.0.signature → d.2.0.signature ≡ packet.signature
     of_some e = cc
-signer_named rules keys (ANack reason whole i) rule d = absurd d
-signer_named rules keys Idle rule d = absurd d
+
+    by_signer : NamesSigner keys d.2.0.signature ⊎ ((d.2.0.kind ≡ kinds.Data) × (is_unverified d.2.2.1 ≡ true)) → NamesItsSigner keys (AData whole packet) ⊎ (is_unverified_at rules rule.0 ≡ true)
+    by_signer (inl names) = inl (subst (NamesSigner keys) (of_some d.2.1.signature) names)
+    by_signer (inr unverified) =
+        let some = any_there d.0.checkers d.2.2.0 d.2.2.1 d.2.2.2 d.2.2.3 unverified.1 in
+        inr (rw (d.1.there, some) refl)

@@ -10,6 +10,7 @@ use Rattle.hmac_keys.specs.Mac.{Mac}
 use Rattle.ndn_packets.specs.Packet.{PlainLocator, Missing, KeyName, Digest, Other, PlainSignature, PlainFrame, AnInterest, AData, ANack, Idle}
 use Rattle.ndn_packets.specs.Covered.{Covered}
 use Rattle.info_rules.specs.declared.rule.Kind.{Kind}
+use Rattle.info_rules.specs.declared.rule.Kind.TheVariants as kinds
 use Rattle.info_rules.specs.declared.rule.LocatorTest.{LocatorTest}
 use Rattle.info_rules.specs.declared.rule.Checker.{Checker}
 use Rattle.info_rules.specs.declared.rule.Checker.TheVariants as checkers
@@ -85,6 +86,7 @@ says keys (checkers.HmacSha256 test) signed none =
     unless (signed.signature.info.kind ≡ 4) reasons.SigType (λ given. ChecksLocator keys test signed.signature.info.locator signed given)
     (locator_says keys test signed.signature.info.locator signed) none
 says keys checkers.Unsupported signed none = none (Some reasons.SigType) refl
+says keys checkers.Unverified signed none = unless (signed.kind ≡ kinds.Data) reasons.SigType (λ given. given ≡ None) (λ no. no None refl) none
 
 -- ---- the results of all checkers
 
@@ -130,8 +132,8 @@ seen rules keys packet none =
         either (SaysWhen packet.kind s)
         (λ timed. either ((a b : List ℕ) × Covered packet.frame a b)
         (λ covers.
-        let signed : PlainSigned = record { name = packet.name; signature = s; covered = covers.0 ++ covers.1 } in
-        let is : IsSigned packet signed = record { first = covers.0; second = covers.1; named = refl; signature = e; timed = timed; covers = covers.2; octets = refl } in
+        let signed : PlainSigned = record { kind = packet.kind; name = packet.name; signature = s; covered = covers.0 ++ covers.1 } in
+        let is : IsSigned packet signed = record { first = covers.0; second = covers.1; same_kind = refl; named = refl; signature = e; timed = timed; covers = covers.2; octets = refl } in
         all_say keys rule.checkers signed (length rule.checkers) 0 None (omega arith) refl
         (λ passed. none (decisions.Allowed (record { 0 = n })) (rule, first, (signed, is, passed)))
         (λ reason greatest. none (decisions.Denied (record { 0 = n }) reason) (rule, first, inr (signed, is, greatest))))

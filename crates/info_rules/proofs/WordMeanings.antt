@@ -20,7 +20,7 @@ use Rattle.info_rules.specs.declared.rule.Kind.TheVariants as kinds
 use Rattle.info_rules.specs.declared.rule.Relation.{Relation}
 use Rattle.info_rules.specs.declared.rule.Relation.TheVariants as relations
 use Rattle.info_rules.specs.declared.value_words.CheckerType.{CheckerType}
-use Rattle.info_rules.specs.declared.value_words.CheckerType.TheVariants.{Customized, Hierarchical}
+use Rattle.info_rules.specs.declared.value_words.CheckerType.TheVariants.{Customized, Hierarchical, Unverified}
 use Rattle.info_rules.specs.declared.value_words.SignatureType.{SignatureType}
 use Rattle.info_rules.specs.declared.value_words.SignatureType.TheVariants.{HmacSha256, Sha256, Asymmetric}
 use Rattle.info_rules.specs.ValueWords.{kind_in, relation_in, checker_type_in, signature_type_in, is_id}
@@ -31,6 +31,7 @@ use Rattle.info_rules.specs.Meaning.{IsKind, IsRelation, IsId}
 abbrev pub IsCheckerType : List ℕ → CheckerType → Type 0
 IsCheckerType text Customized = text ≡ codes "customized"
 IsCheckerType text Hierarchical = text ≡ codes "hierarchical"
+IsCheckerType text Unverified = text ≡ codes "unverified"
 
 abbrev pub IsSignatureType : List ℕ → SignatureType → Type 0
 IsSignatureType text HmacSha256 = text ≡ codes "hmac-sha256"
@@ -107,16 +108,19 @@ relation_meant text relations.IsPrefixOf h = rw h refl
 relation_meant text relations.IsStrictPrefixOf h = rw h refl
 
 pub checker_type_means : (text : List ℕ) (type : CheckerType) → checker_type_in text ≡ Some type → IsCheckerType text type
-checker_type_means text type e = by_tests (bytes_eq text (codes "customized")) (bytes_eq text (codes "hierarchical")) refl refl e
+checker_type_means text type e = by_tests (bytes_eq text (codes "customized")) (bytes_eq text (codes "hierarchical")) (bytes_eq text (codes "unverified")) refl refl refl e
   where
-    by_tests : (s t : Bool) → bytes_eq text (codes "customized") ≡ s → bytes_eq text (codes "hierarchical") ≡ t → cond s (Some Customized) (cond t (Some Hierarchical) None) ≡ Some type → IsCheckerType text type
-    by_tests true t p q e = subst (IsCheckerType text) (some_one Customized type e) (equal text (codes "customized") p)
-    by_tests false true p q e = subst (IsCheckerType text) (some_one Hierarchical type e) (equal text (codes "hierarchical") q)
-    by_tests false false p q e = absurd cc
+    by_tests : (s t u : Bool) → bytes_eq text (codes "customized") ≡ s → bytes_eq text (codes "hierarchical") ≡ t → bytes_eq text (codes "unverified") ≡ u → cond s (Some Customized) (cond t (Some Hierarchical) (cond u (Some Unverified) None)) ≡ Some type
+        → IsCheckerType text type
+    by_tests true t u p q r e = subst (IsCheckerType text) (some_one Customized type e) (equal text (codes "customized") p)
+    by_tests false true u p q r e = subst (IsCheckerType text) (some_one Hierarchical type e) (equal text (codes "hierarchical") q)
+    by_tests false false true p q r e = subst (IsCheckerType text) (some_one Unverified type e) (equal text (codes "unverified") r)
+    by_tests false false false p q r e = absurd cc
 
 pub checker_type_meant : (text : List ℕ) (type : CheckerType) → IsCheckerType text type → checker_type_in text ≡ Some type
 checker_type_meant text Customized h = rw h refl
 checker_type_meant text Hierarchical h = rw h refl
+checker_type_meant text Unverified h = rw h refl
 
 pub signature_means : (text : List ℕ) (type : SignatureType) → signature_type_in text ≡ Some type → IsSignatureType text type
 signature_means text type e = by_tests (bytes_eq text (codes "hmac-sha256")) (bytes_eq text (codes "sha256")) (bytes_eq text (codes "rsa-sha256")) (bytes_eq text (codes "ecdsa-sha256")) refl refl refl refl e

@@ -1,5 +1,6 @@
 -- Reading `checker` blocks.
-use Rattle.std.specs.Prelude.{ℕ, List, Option, None, Some, Ok, Err, Bool, true, false, not, codes, ◌&&◌, ◌||◌, if◌then◌else◌}
+use Rattle.std.specs.Prelude.{ℕ, List, Option, None, Some, Ok, Err, Bool, true, false, not, codes, option_map, ◌&&◌, ◌||◌, if◌then◌else◌}
+use Rattle.info_rules.specs.declared.fault.RulesFault.{RulesFault}
 use Rattle.info_rules.specs.declared.fault.RulesFaultKind.TheVariants.{BadValue}
 use Rattle.info_rules.specs.declared.rule.Checker.{Checker}
 use Rattle.info_rules.specs.declared.rule.Checker.TheVariants as checkers
@@ -8,13 +9,13 @@ use Rattle.info_rules.specs.declared.rule.LocatorTest.TheVariants as locators
 use Rattle.info_rules.specs.Blocks.{BlockKind}
 use Rattle.info_rules.specs.Blocks as blocks
 use Rattle.info_rules.specs.declared.value_words.CheckerType.{CheckerType}
-use Rattle.info_rules.specs.declared.value_words.CheckerType.TheVariants.{Customized, Hierarchical}
+use Rattle.info_rules.specs.declared.value_words.CheckerType.TheVariants.{Customized, Hierarchical, Unverified}
 use Rattle.info_rules.specs.declared.value_words.SignatureType.{SignatureType}
 use Rattle.info_rules.specs.declared.value_words.SignatureType.TheVariants.{HmacSha256, Sha256, Asymmetric}
 use Rattle.info_rules.specs.Tree.{Block}
 use Rattle.info_rules.specs.Faults.{after}
 use Rattle.info_rules.specs.Found.{Found, both, beside, needed_one, needed, shown, then_made, each}
-use Rattle.info_rules.specs.Keys.{first_of, named, is_there, missing_unless, block_in}
+use Rattle.info_rules.specs.Keys.{first_of, named, says, is_there, fault_at, missing_unless, block_in}
 use Rattle.info_rules.specs.ValueWords.{checker_type_in, signature_type_in}
 use Rattle.info_rules.specs.Values.{value_in}
 use Rattle.info_rules.specs.Walk.{walk_faults}
@@ -23,12 +24,14 @@ use Rattle.info_rules.specs.LocatorBlock.{locator_in}
 abbrev pub is_hierarchical : Found (Option CheckerType) → Bool
 is_hierarchical (Ok (Some Hierarchical)) = true
 is_hierarchical (Ok (Some Customized)) = false
+is_hierarchical (Ok (Some Unverified)) = false
 is_hierarchical (Ok None) = false
 is_hierarchical (Err fault) = false
 
 abbrev pub is_customized : Found (Option CheckerType) → Bool
 is_customized (Ok (Some Customized)) = true
 is_customized (Ok (Some Hierarchical)) = false
+is_customized (Ok (Some Unverified)) = false
 is_customized (Ok None) = false
 is_customized (Err fault) = false
 
@@ -70,23 +73,41 @@ checker_with line (Some HmacSha256) test = shown checkers.HmacSha256 (needed_one
 checker_with line (Some Sha256) test = Ok checkers.Sha256
 checker_with line (Some Asymmetric) test = Ok checkers.Unsupported
 
+-- The checker of this type. An unverified checker has no signature type and no requirement on the
+-- key's name.
+abbrev pub checker_typed : ℕ → CheckerType → Option SignatureType → Option LocatorTest
+    → Found Checker
+checker_typed line Customized signature test = checker_with line signature test
+checker_typed line Hierarchical signature test = checker_with line signature test
+checker_typed line Unverified signature test = Ok checkers.Unverified
+
 abbrev pub checker_made : ℕ → (CheckerType × Option SignatureType) × Option LocatorTest
     → Found Checker
-checker_made line read = checker_with line read.0.1 read.1
+checker_made line read = checker_typed line read.0.0 read.0.1 read.1
 
-abbrev pub checker_by : ℕ → List Block → Found (Option CheckerType) → Found (Option SignatureType)
-    → Found Checker
-checker_by line keys type signature = beside
+-- The fault `BadValue` at the checker's `type`, if the checker is unverified, and either its rule is
+-- for Interests (`true`), or its block has a signature type or a key locator.
+unfoldable pub unverified_fault : Bool → List Block → Option RulesFault
+unverified_fault for_interests keys =
+    if says (codes "type") (codes "unverified") keys
+    && (for_interests || is_there (codes "sig-type") keys || is_there (codes "key-locator") keys)
+    then option_map (fault_at BadValue) (first_of (named (codes "type") keys)) else None
+
+abbrev pub checker_by : Bool → ℕ → List Block → Found (Option CheckerType)
+    → Found (Option SignatureType) → Found Checker
+checker_by for_interests line keys type signature = beside
     (after None (walk_faults (block_of (is_hierarchical type)) keys))
+    (beside (unverified_fault for_interests keys)
     (beside (missing_unless (has_locator keys type signature) line)
     (then_made (checker_made line) (both (both (needed line type) signature)
-    (locator_of (is_hierarchical type) keys))))
+    (locator_of (is_hierarchical type) keys)))))
 
-unfoldable pub checker_of : ℕ → List Block → Found Checker
-checker_of line keys = checker_by line keys
+unfoldable pub checker_of : Bool → ℕ → List Block → Found Checker
+checker_of for_interests line keys = checker_by for_interests line keys
     (value_in BadValue checker_type_in (codes "type") keys)
     (value_in BadValue signature_type_in (codes "sig-type") keys)
 
--- the requirement that a `checker` states on a signature, or the fault that is reported
-unfoldable pub checker_in : Block → Found Checker
-checker_in key = block_in 2 checker_of key
+-- the requirement that a `checker` states on a signature, or the fault that is reported; the first
+-- argument is `true` in a rule for Interests
+unfoldable pub checker_in : Bool → Block → Found Checker
+checker_in for_interests key = block_in 2 (checker_of for_interests) key

@@ -6,6 +6,7 @@ use Rattle.ndn_tlv.specs.Element.{Field}
 use Rattle.hmac_keys.specs.KeyFile.{NamedKey, IsAmong}
 use Rattle.hmac_keys.specs.Mac.{Mac}
 use Rattle.ndn_packets.specs.Packet.{PlainLocator, Missing, KeyName, Digest, Other}
+use Rattle.info_rules.specs.declared.rule.Kind.TheVariants as kinds
 use Rattle.info_rules.specs.declared.rule.LocatorTest.{LocatorTest}
 use Rattle.info_rules.specs.declared.rule.Checker.{Checker}
 use Rattle.info_rules.specs.declared.rule.Checker.TheVariants as checkers
@@ -46,7 +47,8 @@ ChecksLocator keys test Other signed given = given ≡ Some reasons.KeyLocator
 -- `given` is the checker's result for the packet. Signature type 0 is DigestSha256 and type 4 is
 -- HmacWithSha256 (NDN Packet Format 0.3, "Signature"). If the packet's signature type is not the
 -- checker's type, `given` is the reason `SigType`. The checker `Unsupported` denies every packet
--- with the reason `SigType`.
+-- with the reason `SigType`. The checker `Unverified` passes every Data, whatever its signature, and
+-- denies every Interest with the reason `SigType`.
 abbrev pub Checks : List NamedKey → Checker → PlainSigned → Option Reason → Type 0
 Checks keys checkers.Sha256 signed given =
     Unless (signed.signature.info.kind ≡ 0) reasons.SigType given
@@ -55,3 +57,5 @@ Checks keys (checkers.HmacSha256 test) signed given =
     Unless (signed.signature.info.kind ≡ 4) reasons.SigType given
     (ChecksLocator keys test signed.signature.info.locator signed given)
 Checks keys checkers.Unsupported signed given = given ≡ Some reasons.SigType
+Checks keys checkers.Unverified signed given =
+    Unless (signed.kind ≡ kinds.Data) reasons.SigType given (given ≡ None)

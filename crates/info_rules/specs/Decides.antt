@@ -114,6 +114,7 @@ Expands (checkers.HmacSha256 test) signed =
     (key : List Field) × (signed.signature.info.locator ≡ KeyName key)
     × MakesBoth test key signed.name
 Expands checkers.Unsupported signed = ⊥
+Expands checkers.Unverified signed = ⊥
 
 -- at least one checker expands its templates
 abbrev pub AnyExpands : List Checker → SeenPacket → Type 0

@@ -1,5 +1,5 @@
 -- The keys of a block: which are present, and which are given too many times.
-use Rattle.std.specs.Prelude.{ℕ, List, [], ◌∷◌, length, Option, None, Some, Err, is_some, Bool, not, nat_lt, bytes_eq, ◌||◌, if◌then◌else◌}
+use Rattle.std.specs.Prelude.{ℕ, List, [], ◌∷◌, length, Option, None, Some, Err, is_some, Bool, false, not, nat_lt, bytes_eq, ◌||◌, if◌then◌else◌}
 use Rattle.std.specs.List.{filter}
 use Rattle.info_rules.specs.declared.fault.RulesFault.{RulesFault}
 use Rattle.info_rules.specs.declared.fault.RulesFaultKind.{RulesFaultKind}
@@ -30,6 +30,12 @@ named word keys = filter (is_word word) keys
 -- the value of a key without a block, or `None` if the key has a block or no value
 abbrev pub value_of : Block → Option (List ℕ)
 value_of key = if key.0.has_block then None else key.0.value
+
+-- the first key that is `word` has the value `text`
+abbrev pub says : List ℕ → List ℕ → List Block → Bool
+says word text keys =
+    on_option (λ key. on_option (λ value. bytes_eq value text) false (value_of key)) false
+    (first_of (named word keys))
 
 -- ---- faults
 

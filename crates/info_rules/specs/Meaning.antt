@@ -18,7 +18,7 @@ use Rattle.info_rules.specs.declared.rule.Checker.TheVariants as checkers
 use Rattle.info_rules.specs.Tree.{PlainEntry, Block, blocks_of}
 use Rattle.info_rules.specs.Keys.{named}
 use Rattle.info_rules.specs.Hyper.{PlainHyper}
-use Rattle.info_rules.specs.Rule.{PlainRule}
+use Rattle.info_rules.specs.Rule.{PlainRule, is_unverified}
 use Rattle.info_rules.specs.Limits.{HaveOwnIds}
 
 -- ---- the keys of a block
@@ -150,23 +150,38 @@ AsksAsTold keys checkers.Sha256 =
 AsksAsTold keys checkers.Unsupported =
     TakesAsymmetric keys
     × ((test : LocatorTest) × HasBlock IsLocator (codes "key-locator") keys test)
+AsksAsTold keys checkers.Unverified = ⊥
 
 -- a checker of `type hierarchical`, which has no key locator
 abbrev pub AsksByHierarchy : List Block → Checker → Type 0
 AsksByHierarchy keys (checkers.HmacSha256 test) = TakesHmac keys × (test ≡ locators.Hierarchical)
 AsksByHierarchy keys checkers.Sha256 = TakesDigest keys
 AsksByHierarchy keys checkers.Unsupported = TakesAsymmetric keys
+AsksByHierarchy keys checkers.Unverified = ⊥
 
-abbrev pub AsksOfSignature : List Block → Checker → Type 0
-AsksOfSignature keys checker =
+-- a checker of `type unverified`, whose block has no other key; only a rule for Data may have it
+abbrev pub AsksNothing : Kind → List Block → Checker → Type 0
+AsksNothing kind keys checker =
+    (kind ≡ kinds.Data) × HasOnly (codes "type" ∷ []) keys
+    × HasValue (codes "type") keys (codes "unverified") × (checker ≡ checkers.Unverified)
+
+-- the keys of a checker, in a rule for this kind of packet, state the checker
+abbrev pub AsksOfSignature : Kind → List Block → Checker → Type 0
+AsksOfSignature kind keys checker =
     (HasOnly (codes "type" ∷ codes "sig-type" ∷ codes "key-locator" ∷ []) keys
     × HasValue (codes "type") keys (codes "customized") × AsksAsTold keys checker)
-    ⊎ (HasOnly (codes "type" ∷ codes "sig-type" ∷ []) keys
+    ⊎ ((HasOnly (codes "type" ∷ codes "sig-type" ∷ []) keys
     × HasValue (codes "type") keys (codes "hierarchical") × AsksByHierarchy keys checker)
+    ⊎ AsksNothing kind keys checker)
 
--- the second argument is the meaning of the first argument, a key `checker`
-abbrev pub IsChecker : Block → Checker → Type 0
-IsChecker key checker = OpensBlock key × AsksOfSignature (blocks_of 2 key.1) checker
+-- the last argument is the meaning of a key `checker` in a rule for this kind of packet
+abbrev pub IsChecker : Kind → Block → Checker → Type 0
+IsChecker kind key checker = OpensBlock key × AsksOfSignature kind (blocks_of 2 key.1) checker
+
+-- an unverified checker is the only checker of its rule
+abbrev pub StandAlone : List Checker → Type 0
+StandAlone all =
+    (length all ≤ 1) ⊎ AllByRecursion (λ checker. is_unverified checker ≡ false) all
 
 -- ---- rules
 
@@ -176,7 +191,8 @@ AreOfRule keys rule =
     HasOnly (codes "id" ∷ codes "for" ∷ codes "filter" ∷ codes "checker" ∷ []) keys
     × Has IsId (codes "id") keys rule.id × Has IsKind (codes "for") keys rule.kind
     × Mean IsFilter (named (codes "filter") keys) rule.filters × (length rule.filters ≤ 16)
-    × Mean IsChecker (named (codes "checker") keys) rule.checkers × (length rule.checkers ≤ 16)
+    × Mean (IsChecker rule.kind) (named (codes "checker") keys) rule.checkers
+    × (length rule.checkers ≤ 16) × StandAlone rule.checkers
 
 -- the second argument is the meaning of the first argument, a key `rule`
 abbrev pub IsRule : Block → PlainRule → Type 0

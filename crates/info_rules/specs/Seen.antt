@@ -41,9 +41,10 @@ abbrev pub SaysWhen : Kind → PlainSignature → Type 0
 SaysWhen kinds.Interest signature = IsSome signature.info.time
 SaysWhen kinds.Data signature = ⊤
 
--- a signed packet as the checkers see it: the name, the signature, and the covered octets as
--- received
+-- a signed packet as the checkers see it: the kind, the name, the signature, and the covered octets
+-- as received
 pub record PlainSigned : Type 0 where
+  pub kind : Kind
   pub name : List Field
   pub signature : PlainSignature
   pub covered : List ℕ
@@ -53,6 +54,7 @@ pub record PlainSigned : Type 0 where
 pub record IsSigned (packet : SeenPacket) (signed : PlainSigned) : Type 0 where
   pub first : List ℕ
   pub second : List ℕ
+  pub same_kind : signed.kind ≡ packet.kind
   pub named : signed.name ≡ packet.name
   pub signature : packet.signature ≡ Some signed.signature
   pub timed : SaysWhen packet.kind signed.signature

@@ -121,6 +121,7 @@ seen_of (packets.Data d) = seen_data d.now.whole.now (plain_data d.now)
 
 abbrev pub signed_of : Signed → PlainSigned
 signed_of s = record {
+  kind = s.kind;
   name = components s.name;
   signature = plain_signature s.signature;
   covered = s.parts.first.now ++ s.parts.second.now;

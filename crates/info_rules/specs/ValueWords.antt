@@ -6,7 +6,7 @@ use Rattle.info_rules.specs.declared.rule.Kind.TheVariants.{Data, Interest}
 use Rattle.info_rules.specs.declared.rule.Relation.{Relation}
 use Rattle.info_rules.specs.declared.rule.Relation.TheVariants.{Equal, IsPrefixOf, IsStrictPrefixOf}
 use Rattle.info_rules.specs.declared.value_words.CheckerType.{CheckerType}
-use Rattle.info_rules.specs.declared.value_words.CheckerType.TheVariants.{Customized, Hierarchical}
+use Rattle.info_rules.specs.declared.value_words.CheckerType.TheVariants.{Customized, Hierarchical, Unverified}
 use Rattle.info_rules.specs.declared.value_words.SignatureType.{SignatureType}
 use Rattle.info_rules.specs.declared.value_words.SignatureType.TheVariants.{HmacSha256, Sha256, Asymmetric}
 
@@ -24,7 +24,8 @@ relation_in text =
 abbrev pub checker_type_in : List ℕ → Option CheckerType
 checker_type_in text =
     if bytes_eq text (codes "customized") then Some Customized else (
-    if bytes_eq text (codes "hierarchical") then Some Hierarchical else None)
+    if bytes_eq text (codes "hierarchical") then Some Hierarchical else (
+    if bytes_eq text (codes "unverified") then Some Unverified else None))
 
 abbrev pub signature_type_in : List ℕ → Option SignatureType
 signature_type_in text =

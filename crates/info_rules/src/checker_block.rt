@@ -4,10 +4,10 @@ ghost use Rattle.std.specs.Prelude.{◌≡◌, IfOk};
 ghost use Rattle.info_rules.specs.Found.{then_made, both as spec_both};
 ghost use Rattle.info_rules.specs.Shown.{keys_of, block_kind_of};
 ghost use Rattle.info_rules.specs.CheckerBlock as spec;
-ghost use Rattle.info_rules.specs.CheckerBlock.{checker_of};
+ghost use Rattle.info_rules.specs.CheckerBlock.{checker_of, unverified_fault};
 
 use crate::block_reader::{BlockReader, read_blocks};
-use crate::fault::RulesFaultKind;
+use crate::fault::{RulesFault, RulesFaultKind};
 use crate::found::{Found, Read, beside, both, missing_unless, needed};
 use crate::keys::Keys;
 use crate::locator_block::LocatorReader;
@@ -68,8 +68,23 @@ fn has_locator(keys: Keys<'_>, checker_type: FoundType, signature: FoundSignatur
         || keys.has("key-locator")
 }
 
+/// Returns the fault `BadValue` at the checker's `type`, if the checker is unverified, and either its
+/// rule is for Interests, or its block has a signature type or a key locator.
+#[tactic(auto, unfolding(crate::specs::CheckerBlock::unverified_fault))]
+fn unverified_fault(for_interests: bool, keys: Keys<'_>) -> Option<RulesFault>
+    ensures { result ≡ unverified_fault for_interests (keys_of keys.entry) }
+{
+    let is_wrong = keys.says("type", "unverified")
+        && (for_interests || keys.has("sig-type") || keys.has("key-locator"));
+    if !is_wrong {
+        return None;
+    }
+    let key = keys.first_named("type")?;
+    Some(RulesFaultKind::BadValue.at(key.own.line))
+}
+
 /// Makes a checker from the parts that were read. Without a signature type, the checker requires an
-/// HMAC signature.
+/// HMAC signature, unless it is unverified.
 fn made_of(
     line: u32,
     types: Found<(CheckerType, Option<SignatureType>)>,
@@ -77,7 +92,10 @@ fn made_of(
 ) -> Found<Checker>
     ensures { result ≡ then_made (spec.checker_made line) (spec_both types test) }
 {
-    let ((_, signature), test) = both(types, test)?;
+    let ((checker_type, signature), test) = both(types, test)?;
+    if matches!(checker_type, CheckerType::Unverified) {
+        return Ok(Checker::Unverified);
+    }
     match signature {
         Some(SignatureType::Sha256) => Ok(Checker::Sha256),
         Some(SignatureType::Asymmetric) => Ok(Checker::Unsupported),
@@ -87,8 +105,11 @@ fn made_of(
     }
 }
 
-/// A reader of checkers.
-pub struct CheckerReader;
+/// A reader of checkers. `for_interests` is true in a rule for Interests.
+#[derive(Drop)]
+pub struct CheckerReader {
+    pub for_interests: bool,
+}
 
 impl BlockReader for CheckerReader {
     type Part = Checker;
@@ -97,7 +118,7 @@ impl BlockReader for CheckerReader {
 
     const DEPTH: usize = 2;
 
-    ghost part_of = { λ _ line keys. checker_of line keys };
+    ghost part_of = { λ reader line keys. checker_of reader.for_interests line keys };
 
     #[tactic(auto, unfolding(crate::specs::CheckerBlock::checker_of))]
     fn read(&self, alloc: Global, line: u32, keys: Keys<'_>) -> Read<Checker> {
@@ -105,9 +126,10 @@ impl BlockReader for CheckerReader {
         let signature = read_value(alloc, keys, "sig-type", RulesFaultKind::BadValue)?;
         let hierarchical = is_hierarchical(checker_type);
         let fault = walk(alloc, block_of(hierarchical), keys)?;
+        let unverified = unverified_fault(self.for_interests, keys);
         let missing = missing_unless(has_locator(keys, checker_type, signature), line);
         let types = both(needed(line, checker_type), signature);
         let checker = made_of(line, types, read_test(alloc, hierarchical, keys)?);
-        Ok(beside(fault, beside(missing, checker)))
+        Ok(beside(fault, beside(unverified, beside(missing, checker))))
     }
 }

@@ -1,9 +1,9 @@
 //! The decisions of rules on packets.
 
-ghost use Rattle.std.specs.Prelude.{◌≡◌, ◌⊎◌, List, Any, MatchOption, MatchResult};
+ghost use Rattle.std.specs.Prelude.{◌≡◌, ◌⊎◌, ℕ, List, Any, true, MatchOption, MatchResult};
 ghost use Rattle.hmac_keys.specs.KeyFile.{NamedKey, AreApart};
-ghost use Rattle.ndn_packets.specs.Packet.{PlainFrame};
-ghost use Rattle.info_rules.specs.Rule.{PlainRule};
+ghost use Rattle.ndn_packets.specs.Packet.{PlainInterest, PlainData, PlainFrame, AnInterest, AData};
+ghost use Rattle.info_rules.specs.Rule.{PlainRule, is_unverified_at};
 ghost use Rattle.info_rules.specs.Decides.{IsGreater, IsPassed, IsGreatest, Allow, Deny, Expands, AnyExpands, Decides};
 ghost use Rattle.ndn_names.specs.View.{components};
 ghost use Rattle.info_rules.specs.Shown.{seen_of, signed_of};
@@ -207,8 +207,15 @@ pub fn no_packet_is_undecided()
 
 /// Law: an allowed packet has a signature of type DigestSha256, which anybody can compute, or of
 /// type HmacWithSha256. For HmacWithSha256, the KeyLocator has the name of a key of the key book.
-/// An allowed Interest also has a SignatureTime.
+/// An allowed Interest also has a SignatureTime. Only a Data may have another signature, and only if
+/// the rule that allows it has an unverified checker.
 pub fn allowed_packets_name_their_signer()
-    ensures { (rules : List PlainRule) (keys : List NamedKey) (packet : PlainFrame) (rule : RuleNo)
-        → Decides rules keys packet (Decision.Allowed rule) → NamesItsSigner keys packet }
+    ensures interest { (rules : List PlainRule) (keys : List NamedKey) (whole : List ℕ)
+        (i : PlainInterest) (rule : RuleNo)
+        → Decides rules keys (AnInterest whole i) (Decision.Allowed rule)
+        → NamesItsSigner keys (AnInterest whole i) }
+    ensures data { (rules : List PlainRule) (keys : List NamedKey) (whole : List ℕ)
+        (d : PlainData) (rule : RuleNo)
+        → Decides rules keys (AData whole d) (Decision.Allowed rule)
+        → NamesItsSigner keys (AData whole d) ⊎ (is_unverified_at rules rule.0 ≡ true) }
 {}

@@ -30,7 +30,9 @@ pub enum RulesFaultKind {
     /// A key whose value is missing or invalid, except an invalid pattern or template (`Pattern`)
     /// and a trust anchor of type `any` (`AnyAnchor`). A key without the block that it needs. A key
     /// with a value or a block that it cannot have. A key of a second form in a filter or a key
-    /// locator. There are three forms: `name` and `relation`; `regex`; `hyper-relation`.
+    /// locator. There are three forms: `name` and `relation`; `regex`; `hyper-relation`. An
+    /// unverified checker in a rule for Interests, or with a signature type, a key locator or
+    /// another checker beside it.
     #[error("BadValue: wrong or missing value or block, or a key that cannot stand with the others")]
     BadValue,
     /// A key is given more than once in a block that allows it once, or two rules have the same id.

@@ -64,7 +64,7 @@ impl<'a> Keys<'a> {
     ghost use Rattle.std.specs.Prelude.{◌≡◌, ◌≤◌, ◌<◌, [], ◌∷◌, map, length, MatchOption};
     ghost use Rattle.std.specs.Option.{option_map};
     ghost use Rattle.info_rules.specs.Tree.{parted};
-    ghost use Rattle.info_rules.specs.Keys.{first_of, others_of, named, is_there};
+    ghost use Rattle.info_rules.specs.Keys.{first_of, others_of, named, is_there, says};
     ghost use Rattle.info_rules.specs.Shown.{entry_of, key_of, keys_of};
 
     /// Returns the entries before the first key, and the entries from the first key on. If there is
@@ -125,6 +125,16 @@ impl<'a> Keys<'a> {
         ensures { result ≡ is_there word.now (keys_of self.entry) }
     {
         self.first_named(word).is_some()
+    }
+
+    /// Returns whether the first key that is `word` has the value `text`.
+    pub fn says(self, word: &str, text: &str) -> bool
+        ensures { result ≡ says word.now text.now (keys_of self.entry) }
+    {
+        match self.first_named(word) {
+            None => false,
+            Some(key) => key.value() == Some(text),
+        }
     }
 
     /// Returns the number of keys that are `word`.

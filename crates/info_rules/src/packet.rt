@@ -23,10 +23,11 @@ pub enum Packet<'a> {
     Data(&'a Data<'a>),
 }
 
-/// A signed packet as the checkers see it: its name, its signature and the octets that the
+/// A signed packet as the checkers see it: its kind, its name, its signature and the octets that the
 /// signature covers.
 #[derive(Clone, Copy)]
 pub struct Signed<'a> {
+    pub kind: Kind,
     pub name: Name<'a>,
     pub signature: Signature<'a>,
     pub parts: Parts<'a>,
@@ -106,6 +107,7 @@ fn signed_interest<'a>(interest: &'a Interest<'a>, name: Name<'a>) -> Result<Sig
         return Err(Reason::Shape);
     };
     Ok(Signed {
+        kind: Kind::Interest,
         name,
         signature,
         parts,
@@ -120,6 +122,7 @@ fn signed_data<'a>(packet: &'a Data<'a>, name: Name<'a>) -> Result<Signed<'a>, R
     // Every Data that was read has covered octets.
     let parts = packet.signed_parts().ok_or(Reason::Shape)?;
     Ok(Signed {
+        kind: Kind::Data,
         name,
         signature: packet.signature,
         parts,

@@ -86,6 +86,8 @@ pub enum Checker {
     HmacSha256(LocatorTest),
     /// A signature type for RSA or ECDSA, which is never accepted.
     Unsupported,
+    /// Any signature of a Data, which is not verified. Never accepted for an Interest.
+    Unverified,
 }
 
 /// A rule applies to packets of its kind. If the rule has filters, it applies only to packets whose

@@ -1,20 +1,25 @@
 //! Reads `rule` blocks.
 
-ghost use Rattle.std.specs.Prelude.{◌≡◌, IfOk};
+ghost use Rattle.std.specs.Prelude.{◌≡◌, ◌++◌, None, IfOk};
 ghost use Rattle.info_rules.specs.Found.{shown, both as spec_both};
-ghost use Rattle.info_rules.specs.Shown.{keys_of};
-ghost use Rattle.info_rules.specs.RuleBlock.{head_in, rule_with, rule_parts, rule_of_keys};
+ghost use Rattle.info_rules.specs.Blocks as blocks;
+ghost use Rattle.info_rules.specs.Faults.{after};
+ghost use Rattle.info_rules.specs.Walk.{walk_faults};
+ghost use Rattle.info_rules.specs.Shown.{key_of, keys_of};
+ghost use Rattle.info_rules.specs.RuleBlock.{head_in, rule_with, rule_parts, states_unverified, further_faults, rule_of_keys};
 
 use crate::block_reader::{BlockReader, read_blocks};
 use crate::checker_block::CheckerReader;
 use crate::fault::RulesFaultKind;
 use crate::filter_block::FilterReader;
 use crate::found::{Found, Read, beside, both, needed};
-use crate::keys::Keys;
+use crate::keys::{Key, Keys};
 use crate::readers::{read_id, read_value};
+use crate::report::{Report, note};
 use crate::rule::{Checker, Kind, NameTest, Rule};
 use crate::table::Block;
 use crate::walk::walk;
+use ndn_tlv::Memory;
 use std::alloc::Global;
 
 /// Makes a rule from the parts that were read.
@@ -58,8 +63,47 @@ fn read_parts(alloc: Global, line: u32, keys: Keys<'_>) -> Read<Rule>
 {
     let head = read_head(alloc, line, keys)?;
     let filters = read_blocks(alloc, &FilterReader, "filter", keys)?;
-    let checkers = read_blocks(alloc, &CheckerReader, "checker", keys)?;
+    let for_interests = keys.says("for", "interest");
+    let checkers = read_blocks(alloc, &CheckerReader { for_interests }, "checker", keys)?;
     made_of(alloc, head, filters, checkers)
+}
+
+/// Returns whether the key `checker` states an unverified checker.
+#[tactic(auto, unfolding(crate::specs::RuleBlock::states_unverified))]
+fn states_unverified(key: Key<'_>) -> bool
+    ensures { result ≡ states_unverified (key_of key.entry) }
+{
+    key.keys(CheckerReader::DEPTH).says("type", "unverified")
+}
+
+/// Adds a fault to the report for each checker that is not the first one of its rule, if it or the
+/// first one is unverified: an unverified checker must be the only checker of its rule.
+#[tactic(auto, using(crate::proofs::Reports::after_append, crate::proofs::Reports::after_none), unfolding(crate::specs::Faults::after, crate::specs::RuleBlock::further_faults))]
+fn judge_further(keys: Keys<'_>, report: &mut Report)
+    ensures { report.new ≡ after report.old (further_faults (keys_of keys.entry)) }
+{
+    let Some((first, mut left)) = keys.find("checker") else {
+        return;
+    };
+    let first_unverified = states_unverified(first);
+    while let Some((key, others)) = left.split_first() {
+        if key.is("checker") && (first_unverified || states_unverified(key)) {
+            note(report, RulesFaultKind::BadValue.at(key.own.line));
+        }
+        left = others;
+    }
+}
+
+/// Returns the one of these faults that is reported: a key that is unknown or given too many times,
+/// or a checker that stands beside an unverified one. Returns `None` if there is no such fault.
+#[tactic(auto, using(crate::proofs::Reports::after_append))]
+fn judge_rule(alloc: Global, keys: Keys<'_>) -> Result<Report, Memory>
+    ensures { IfOk result (λ fault. fault ≡ after None
+        (walk_faults blocks.Rule (keys_of keys.entry) ++ further_faults (keys_of keys.entry))) }
+{
+    let mut report = walk(alloc, Block::Rule, keys)?;
+    judge_further(keys, &mut report);
+    Ok(report)
 }
 
 /// A reader of rules.
@@ -76,7 +120,7 @@ impl BlockReader for RuleReader {
 
     #[tactic(auto, unfolding(crate::specs::RuleBlock::rule_of_keys))]
     fn read(&self, alloc: Global, line: u32, keys: Keys<'_>) -> Read<Rule> {
-        let fault = walk(alloc, Block::Rule, keys)?;
+        let fault = judge_rule(alloc, keys)?;
         let rule = read_parts(alloc, line, keys)?;
         Ok(beside(fault, rule))
     }

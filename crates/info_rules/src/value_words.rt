@@ -24,6 +24,8 @@ pub enum CheckerType {
     Customized,
     /// The requirement `LocatorTest::Hierarchical`.
     Hierarchical,
+    /// No requirement: signatures are not verified.
+    Unverified,
 }
 
 /// The signature type of a checker.
@@ -77,6 +79,7 @@ impl Value for CheckerType {
         Ok(match text {
             "customized" => Some(CheckerType::Customized),
             "hierarchical" => Some(CheckerType::Hierarchical),
+            "unverified" => Some(CheckerType::Unverified),
             _ => None,
         })
     }

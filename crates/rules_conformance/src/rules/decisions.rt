@@ -310,6 +310,26 @@ fn unsupported_signatures(rt: HostRuntime) {
     assert_right(&rt, first_wrong_of(rt.alloc(), UNSUPPORTED));
 }
 
+const UNVERIFIED: &str = r"
+rule {␊ id a␊ for data␊ filter {␊ type name␊ name /A␊ relation is-prefix-of }␊ checker {␊ type unverified } }
+# SignatureTypes 0, 1, 3, 4, 5 and 200, each with an empty SignatureValue and no KeyLocator.
+octets 060c070308014116031b01001700 → allowed 0
+octets 060c070308014116031b01011700 → allowed 0
+octets 060c070308014116031b01031700 → allowed 0
+octets 060c070308014116031b01041700 → allowed 0
+octets 060c070308014116031b01051700 → allowed 0
+octets 060c070308014116031b01c81700 → allowed 0
+data /A/x by /none/KEY/1 key → allowed 0
+data /B by digest → no rule
+interest /A by digest → no rule
+";
+
+/// An unverified checker passes each Data of its rule's names, whatever its signature.
+#[test]
+fn unverified_data(rt: HostRuntime) {
+    assert_right(&rt, first_wrong_of(rt.alloc(), UNVERIFIED));
+}
+
 const GREATEST_REASON: &str = r"
 rule {␊ id a␊ for data␊ checker {␊ type customized␊ sig-type sha256 }␊ checker {␊ type customized␊ sig-type hmac-sha256␊ key-locator {␊ type name␊ name /ops/KEY/2␊ relation equal } }␊ checker {␊ type customized␊ sig-type hmac-sha256␊ key-locator {␊ type name␊ name /ops/KEY/1␊ relation equal } } }
 data /A by /ops/KEY/1 kez → denied 0 Tag

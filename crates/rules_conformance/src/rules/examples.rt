@@ -131,6 +131,23 @@ rule
   }
 }
 
+; Data of other networks: passed on and not verified, whoever signed it.
+rule
+{
+  id transit
+  for data
+  filter
+  {
+    type name
+    name /ndn
+    relation is-prefix-of
+  }
+  checker
+  {
+    type unverified
+  }
+}
+
 ; All other Data: a digest. ECDSA is not verified, so no packet passes the second checker.
 rule
 {
@@ -166,11 +183,12 @@ interest /repo/insert/P by /lab/roof/KEY/7 key → allowed 2
 interest /elsewhere by /ops/KEY/1 key → no rule
 data /lab/roof/wind by /keys/roof/KEY/7 key → allowed 3
 data /lab/cellar/wind by /keys/roof/KEY/7 key → denied 3 KeyLocator
-data /lab by digest → allowed 5
+data /lab by digest → allowed 6
 data /sensors/roof/1 by /sensors/roof/KEY/7 key → allowed 4
 data /sensors/roof/1 by digest → denied 4 SigType
-data /cameras by digest → allowed 5
-data /A by digest → allowed 5
+data /cameras by digest → allowed 6
+data /A by digest → allowed 6
+data /ndn/x by /other/KEY/1 key → allowed 5
 ";
 
 #[test]

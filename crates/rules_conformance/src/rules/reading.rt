@@ -2,7 +2,7 @@
 //! are rule files, and which faults other texts have, is in `crates/ndn_node/transcripts/rules.txt`.
 
 use crate::rows::check_rows;
-use info_rules::{InfoTree, Reason, Rules, RulesFault, RulesFaultKind};
+use info_rules::{InfoTree, Reason, RuleNo, Rules, RulesFault, RulesFaultKind};
 use std::alloc::Global;
 use test_support::typed;
 
@@ -71,6 +71,41 @@ fn is_read_unless_memory(alloc: Global) -> bool {
 #[test]
 fn rules_with_refused_memory(rt: HostRuntime) {
     assert!(rt; is_read_unless_memory(rt.alloc()));
+}
+
+const TRANSIT: &str = r"
+rule {
+  id archive
+  for data
+  checker {
+    type hierarchical
+  }
+}
+rule {
+  id transit
+  for data
+  checker {
+    type unverified
+  }
+}
+";
+
+/// Returns whether of the rules of `TRANSIT` the second one alone is unverified.
+fn is_transit_unverified(alloc: Global) -> bool {
+    match rules_of(alloc, TRANSIT) {
+        Ok(rules) => {
+            !rules.is_unverified(RuleNo(0))
+                && rules.is_unverified(RuleNo(1))
+                && !rules.is_unverified(RuleNo(2))
+        }
+        Err(_) => false,
+    }
+}
+
+/// A rule that does not verify signatures says so. There is no third rule.
+#[test]
+fn unverified_rules(rt: HostRuntime) {
+    assert!(rt; is_transit_unverified(rt.alloc()));
 }
 
 /// Returns the `RulesFaultKind` with this name.
