@@ -7,7 +7,7 @@ use Rattle.std.specs.List.{list_all}
 use Rattle.std.specs.Option.{option_map}
 use Rattle.std.specs.Fmt.{decimal}
 use Rattle.ndn_names.specs.Uri.{uri_of}
-use Rattle.ndn_packets.specs.declared.types.TheConstants.{CONGESTION, DUPLICATE, NO_ROUTE}
+use Rattle.ndn_packets.specs.declared.types.TheConstants.{CONGESTION, DIGEST_SHA256, DUPLICATE, HMAC_WITH_SHA256, NO_ROUTE}
 use Rattle.ndn_packets.specs.Packet.{PlainLocator, Missing, KeyName, Digest, Other, PlainSignature, PlainSignatureInfo, PlainData, PlainFrame, PlainFramed, AnInterest, AData, ANack, Idle}
 use Rattle.ndn_explain.specs.Show.{named_line, optional_line, hex_or_dash, interest_lines, frame_lines}
 use Rattle.ndn_explain.specs.Meaning.{command_lines, is_printable, reply_lines}
@@ -31,10 +31,19 @@ info_lines info =
     ++ (optional_line (codes "time") (option_map decimal info.time)
     ++ optional_line (codes "seq") (option_map decimal info.seq))
 
+-- the line of a signature that is neither a DigestSha256 nor an HMAC, and so is never verified; no
+-- line for the other two types
+abbrev pub unverified_lines : ℕ → List ℕ
+unverified_lines kind =
+    if kind == DIGEST_SHA256 then [] else (
+    if kind == HMAC_WITH_SHA256 then [] else
+    codes "signature: type " ++ (decimal kind ++ codes ", not verified\n"))
+
 -- the lines of the SignatureInfo; no lines for an unsigned packet
 abbrev pub signer_lines : Option PlainSignature → List ℕ
 signer_lines None = []
-signer_lines (Some signature) = info_lines signature.info
+signer_lines (Some signature) =
+    info_lines signature.info ++ unverified_lines signature.info.kind
 
 abbrev pub signature_of : PlainFrame → Option PlainSignature
 signature_of (AnInterest whole i) = i.signature

@@ -6,7 +6,7 @@ ghost use Rattle.ndn_packets.specs.Packet.{plain_signature, plain_locator};
 ghost use Rattle.ndn_packets.specs.View.{plain_frame, plain_framed, plain_data};
 ghost use Rattle.ndn_explain.specs.Show.{named_line, optional_line};
 ghost use Rattle.ndn_explain.specs.TagCheck.{MayBeChecked, check_words, check_lines};
-ghost use Rattle.ndn_explain.specs.Explain.{reason_word, named_frame_lines, text_lines, locator_text, info_lines, signer_lines, signature_of, content_lines, data_meaning, meaning, explanation, framed_explanation};
+ghost use Rattle.ndn_explain.specs.Explain.{reason_word, named_frame_lines, text_lines, locator_text, info_lines, unverified_lines, signer_lines, signature_of, content_lines, data_meaning, meaning, explanation, framed_explanation};
 
 use crate::dataset::{Layout, put_entries};
 use crate::meaning::{is_one_line, put_command, put_reply};
@@ -17,7 +17,7 @@ use crate::show::{
 use crate::tag_check::{TagCheck, check_tag};
 use hmac_keys::KeyBook;
 use ndn_packets::types::{CONGESTION, DUPLICATE, NO_ROUTE};
-use ndn_packets::{Data, Frame, Framed, Locator, Signature};
+use ndn_packets::{DIGEST_SHA256, Data, Frame, Framed, HMAC_WITH_SHA256, Locator, Signature};
 use ndn_tlv::Memory;
 use std::alloc::Global;
 use std::io::Write;
@@ -181,7 +181,21 @@ fn put_signer(
 {
     match signature {
         None => Ok(()),
-        Some(signature) => put_info(alloc, text, &signature),
+        Some(signature) => {
+            put_info(alloc, text, &signature)?;
+            put_unverified(text, signature.kind)
+        }
+    }
+}
+
+/// Appends the line of a signature that is neither a DigestSha256 nor an HMAC, and so is never
+/// verified. Appends nothing for the other two types.
+fn put_unverified(text: &mut Vec<u8>, kind: u64) -> Result<(), Memory>
+    ensures { OnOk result (text.new.items ≡ text.old.items ++ unverified_lines kind) }
+{
+    match kind {
+        DIGEST_SHA256 | HMAC_WITH_SHA256 => Ok(()),
+        _ => writeln!(text, "signature: type {kind}, not verified").map_err(|_| Memory),
     }
 }
 
