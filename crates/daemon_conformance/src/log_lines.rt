@@ -23,7 +23,7 @@ const DATA: &str = "06150703080161160a1b01041c05070308016b1702abcd";
 const BROKEN: &str =
     "0501ffffffffffffffffffffffffffffffffffffffffffffffffffffffffffffffffffffffffffff";
 
-/// One rule whose id contains letters that are not ASCII.
+/// Two rules. The id of the first contains letters that are not ASCII, and the second is unverified.
 const RULES: &str = "rule
 {
   id sonde-\u{e9}t\u{e9}
@@ -32,6 +32,15 @@ const RULES: &str = "rule
   {
     type customized
     sig-type sha256
+  }
+}
+rule
+{
+  id transit
+  for data
+  checker
+  {
+    type unverified
   }
 }
 ";
@@ -152,6 +161,15 @@ fn lines_of_events(rt: HostRuntime) {
             Verdict::Denied(Kind::Data, RuleNo(0), Reason::SigType),
             "2026-11-27T22:10:00.123Z face 2 192.0.2.7:6363 Data /a: \
          denied by rule sonde-%C3%A9t%C3%A9, SigType, key /k\n",
+        )
+    );
+    assert!(rt;
+        is_line(
+            alloc,
+            DATA,
+            Verdict::DataAllowed(RuleNo(1)),
+            "2026-11-27T22:10:00.123Z face 2 192.0.2.7:6363 Data /a: \
+         allowed by rule transit, unverified\n",
         )
     );
     assert!(rt;

@@ -1,12 +1,12 @@
 -- The texts for verdicts.
-use Rattle.std.specs.Prelude.{ℕ, List, [], ◌++◌, codes, Option, Result, Ok, Err}
+use Rattle.std.specs.Prelude.{ℕ, List, [], ◌++◌, codes, Option, Result, Ok, Err, if◌then◌else◌}
 use Rattle.std.specs.Fmt.{decimal}
 use Rattle.ndn_tlv.specs.declared.memory.Memory.{Memory}
 use Rattle.ndn_packets.specs.FaultName.{packet_name}
 use Rattle.ndn_packets.specs.Packet.{PlainFrame}
 use Rattle.info_rules.specs.declared.decision.Reason.{Reason}
 use Rattle.info_rules.specs.Names.{reason_name}
-use Rattle.info_rules.specs.Rule.{PlainRule}
+use Rattle.info_rules.specs.Rule.{PlainRule, is_unverified_at}
 use Rattle.forwarder.specs.declared.verdict.Verdict as code
 use Rattle.forwarder.specs.declared.verdict.Verdict.TheVariants as outcomes
 use Rattle.forwarder.specs.Commands.{id_of}
@@ -34,13 +34,19 @@ abbrev pub denial_words : List PlainRule → ℕ → Reason → List ℕ
 denial_words rules rule reason =
     codes "denied by rule " ++ (id_of rules rule ++ (codes ", " ++ reason_name reason))
 
+-- the words after the rule that allows a Data, if the rule does not verify signatures
+abbrev pub unverified_words : List PlainRule → ℕ → List ℕ
+unverified_words rules rule =
+    if is_unverified_at rules rule then codes ", unverified" else []
+
 -- The words for a verdict. Rules are shown by their ids. The words for a denial end with the name
 -- of the key in the packet's KeyLocator, if the KeyLocator contains a name.
 abbrev pub verdict_words : List PlainRule → Option PlainFrame → Verdict → List ℕ
 verdict_words rules frame Passed = codes "passed"
 verdict_words rules frame (Allowed rule status) =
     codes "allowed by rule " ++ (id_of rules rule ++ (codes ", status " ++ decimal status))
-verdict_words rules frame (DataAllowed rule) = codes "allowed by rule " ++ id_of rules rule
+verdict_words rules frame (DataAllowed rule) =
+    codes "allowed by rule " ++ (id_of rules rule ++ unverified_words rules rule)
 verdict_words rules frame (Denied kind rule reason) =
     denial_words rules rule reason ++ key_words frame
 verdict_words rules frame (NoRule kind) = codes "denied, no rule applies" ++ key_words frame

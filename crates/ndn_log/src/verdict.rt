@@ -3,7 +3,7 @@
 ghost use Rattle.std.specs.Prelude.{◌≡◌, ◌++◌, OnOk, option_map};
 ghost use Rattle.ndn_packets.specs.View.{plain_frame};
 ghost use Rattle.forwarder.specs.Verdict.{reason_of, verdict_of};
-ghost use Rattle.ndn_log.specs.Verdict.{denial_words, drop_words, dropped_words, outcome_words, verdict_words};
+ghost use Rattle.ndn_log.specs.Verdict.{denial_words, drop_words, dropped_words, outcome_words, unverified_words, verdict_words};
 
 use crate::packet::put_key;
 use crate::words::{put_octets, put_word};
@@ -71,7 +71,13 @@ fn put_verdict(
             .map_err(|_| Memory)
         }
         Verdict::DataAllowed(rule) => {
-            write!(text, "allowed by rule {}", id_of(rules, rule)).map_err(|_| Memory)
+            write!(
+                text,
+                "allowed by rule {}{}",
+                id_of(rules, rule),
+                unverified_words(rules, rule)
+            )
+            .map_err(|_| Memory)
         }
         Verdict::Denied(_, rule, reason) => {
             put_denial(text, rules, rule, reason)?;
@@ -85,6 +91,18 @@ fn put_verdict(
             put_word(text, "dropped, ")?;
             put_drop(text, reason)
         }
+    }
+}
+
+/// Returns the words after the rule that allows a Data: empty words, unless the rule does not verify
+/// signatures.
+fn unverified_words(rules: &Rules, rule: RuleNo) -> &'static str
+    ensures { result.now ≡ unverified_words rules.now rule.0 }
+{
+    if rules.is_unverified(rule) {
+        ", unverified"
+    } else {
+        ""
     }
 }
 
