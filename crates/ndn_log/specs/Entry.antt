@@ -1,5 +1,5 @@
 -- Events as a log shows them.
-use Rattle.std.specs.Prelude.{ℕ, List, [], Bool, true, false, Result, Ok, Err}
+use Rattle.std.specs.Prelude.{ℕ, List, [], Bool, true, false, Option, None, Some, Result, Ok, Err, if◌then◌else◌}
 use Rattle.ndn_tlv.specs.declared.memory.Memory.{Memory}
 use Rattle.forwarder.specs.declared.verdict.Verdict.{Verdict}
 use Rattle.forwarder.specs.declared.verdict.Verdict.TheVariants.{Passed, Allowed, DataAllowed, Denied, NoRule, Dropped}
@@ -31,3 +31,22 @@ is_plain (Opened face scope) outcome = is_plain_outcome outcome
 is_plain (Closed face) outcome = is_plain_outcome outcome
 is_plain Tick outcome = is_plain_outcome outcome
 is_plain NewRules outcome = false
+
+-- whether the verdict is a denial or a drop
+abbrev pub is_refusal : Result Verdict Memory → Bool
+is_refusal (Ok Passed) = false
+is_refusal (Ok (Allowed rule status)) = false
+is_refusal (Ok (DataAllowed rule)) = false
+is_refusal (Ok (Denied kind rule reason)) = true
+is_refusal (Ok (NoRule kind)) = true
+is_refusal (Ok (Dropped why)) = true
+is_refusal (Err _) = false
+
+-- The face of a packet that was denied or dropped, or the face that could not open, or None for
+-- another event. The lines of these events are limited (`Limits`), unless all events are shown.
+abbrev pub refused_on : Came → Result Verdict Memory → Option ℕ
+refused_on (Packet face octets) outcome = if is_refusal outcome then Some face else None
+refused_on (Opened face scope) outcome = if is_refusal outcome then Some face else None
+refused_on (Closed face) outcome = None
+refused_on Tick outcome = None
+refused_on NewRules outcome = None

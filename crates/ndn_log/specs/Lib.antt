@@ -5,4 +5,6 @@ pub mod Packet
 pub mod Entry
 pub mod Verdict
 pub mod Event
+pub mod Limits
+pub mod LimitLaws
 pub mod Notes

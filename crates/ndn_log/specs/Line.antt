@@ -1,5 +1,5 @@
 -- Lines that cannot control a terminal: printable ASCII with a line feed at the end.
-use Rattle.std.specs.Prelude.{◌≡◌, ℕ, List, [], ◌∷◌, ◌++◌, flat_map, Bool, true, nat_le, ◌&&◌, codes, if◌then◌else◌}
+use Rattle.std.specs.Prelude.{◌≡◌, ℕ, List, [], ◌∷◌, ◌++◌, drop, length, flat_map, Bool, true, nat_le, ◌&&◌, codes, if◌then◌else◌}
 use Rattle.std.specs.List.{list_all}
 use Rattle.ndn_names.specs.Uri.{hexadecimal}
 use Rattle.ndn_log.specs.Time.{IsTimeText}
@@ -29,3 +29,11 @@ pub record IsLogged (old new : List ℕ) (moment : ℕ) (words : List ℕ) : Typ
   pub time : List ℕ
   pub is_time : IsTimeText moment time
   pub appended : new ≡ old ++ line_of (time ++ (codes " " ++ words))
+
+-- `new` is `old` with one line appended for each of the texts, in order. Each line has the time
+-- that is `moment` milliseconds after the start of 1970.
+abbrev pub AreLogged : List ℕ → List ℕ → ℕ → List (List ℕ) → Type 0
+AreLogged old new moment [] = new ≡ old
+AreLogged old new moment (words ∷ more) =
+    (middle : List ℕ) × IsLogged old middle moment words
+    × IsOneLine (drop (length old) middle) × AreLogged middle new moment more

@@ -1,7 +1,10 @@
--- The texts of log lines about failed sends, closed faces, and datagrams from endpoints that are
--- not peers.
-use Rattle.std.specs.Prelude.{ℕ, List, ◌++◌, codes, Option}
+-- The texts of log lines about failed sends, closed faces, datagrams from endpoints that are not
+-- peers, and lines that were left out.
+use Rattle.std.specs.Prelude.{ℕ, List, [], ◌∷◌, ◌++◌, codes, flat_map, Option, None, ◌==◌, if◌then◌else◌}
 use Rattle.std.specs.declared.net.socket_addr.SocketAddr.{SocketAddr}
+use Rattle.ndn_log.specs.declared.limits.ShownLine.{ShownLine}
+use Rattle.ndn_log.specs.declared.limits.TheConstants.{SECOND_LINES}
+use Rattle.ndn_log.specs.Limits.{LimitsState}
 use Rattle.ndn_log.specs.Words.{counted, face_words, octets_words}
 
 abbrev pub failed_send_words : ℕ → Option SocketAddr → List ℕ → List ℕ
@@ -13,3 +16,28 @@ closed_words count = counted count (codes "face") ++ codes " closed"
 
 abbrev pub stranger_words : ℕ → List ℕ
 stranger_words count = counted count (codes "datagram") ++ codes " of strangers"
+
+-- the words for lines of a face that were left out because of the limit on this face
+abbrev pub left_words : ℕ → ℕ → List ℕ
+left_words face count =
+    face_words face None ++ (codes ": " ++ counted count (codes "more line"))
+
+-- the words for lines that were left out only because of the limit on all faces
+abbrev pub others_words : ℕ → List ℕ
+others_words count =
+    codes "above " ++ (counted SECOND_LINES (codes "line")
+    ++ (codes " a second: " ++ counted count (codes "more line")))
+
+-- the texts that tell how many lines of the face of a shown line were left out; no text, if none
+-- was
+abbrev pub left_texts : ShownLine → List (List ℕ)
+left_texts line = if line.left == 0 then [] else left_words line.face line.left ∷ []
+
+abbrev pub others_texts : ℕ → List (List ℕ)
+others_texts count = if count == 0 then [] else others_words count ∷ []
+
+-- The texts that tell how many lines were left out: one for each face with such lines, in the order
+-- of the faces' first lines, and then one for the lines that were left out only because of the
+-- limit on all faces, if there are any.
+abbrev pub left_out_texts : LimitsState → List (List ℕ)
+left_out_texts limits = flat_map left_texts limits.shown ++ others_texts limits.others

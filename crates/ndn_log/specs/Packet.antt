@@ -1,5 +1,5 @@
 -- The texts for packets.
-use Rattle.std.specs.Prelude.{ℕ, List, [], ◌++◌, codes, Option, None, Some, ◌==◌, if◌then◌else◌}
+use Rattle.std.specs.Prelude.{ℕ, List, [], ◌++◌, length, take, codes, Option, None, Some, ◌==◌, nat_le, if◌then◌else◌}
 use Rattle.std.specs.Fmt.{decimal}
 use Rattle.std.specs.Result.{result_ok}
 use Rattle.ndn_tlv.specs.Element.{Field}
@@ -7,6 +7,7 @@ use Rattle.ndn_names.specs.Uri.{uri_of}
 use Rattle.ndn_packets.specs.declared.types.TheConstants.{CONGESTION, DUPLICATE, NO_ROUTE}
 use Rattle.ndn_packets.specs.Packet.{PlainLocator, Missing, KeyName, Digest, Other, PlainSignature, PlainFrame, AnInterest, AData, ANack, Idle}
 use Rattle.ndn_packets.specs.FrameReading.{frame_at}
+use Rattle.ndn_log.specs.declared.packet.TheConstants.{SHOWN_CHARACTERS}
 
 -- the frame that the octets encode, if they encode one
 abbrev pub frame_in : List ℕ → Option PlainFrame
@@ -19,12 +20,23 @@ nack_reason reason =
     if reason == DUPLICATE then codes "Duplicate" else (
     if reason == NO_ROUTE then codes "NoRoute" else decimal reason))
 
+-- The text as it is if it has at most 200 octets. Otherwise its first 200 octets, and two dots.
+abbrev pub cut_text : List ℕ → List ℕ
+cut_text text =
+    if nat_le (length text) SHOWN_CHARACTERS then text
+    else take SHOWN_CHARACTERS text ++ codes ".."
+
+-- A name as lines show it: at most the first 200 characters of its URI. Each character of a URI is
+-- one octet.
+abbrev pub name_words : List Field → List ℕ
+name_words name = cut_text (uri_of name)
+
 abbrev pub nack_words : ℕ → List Field → List ℕ
-nack_words reason name = codes "Nack " ++ (nack_reason reason ++ (codes " " ++ uri_of name))
+nack_words reason name = codes "Nack " ++ (nack_reason reason ++ (codes " " ++ name_words name))
 
 abbrev pub frame_words : PlainFrame → List ℕ
-frame_words (AnInterest whole i) = codes "Interest " ++ uri_of i.name
-frame_words (AData whole d) = codes "Data " ++ uri_of d.name
+frame_words (AnInterest whole i) = codes "Interest " ++ name_words i.name
+frame_words (AData whole d) = codes "Data " ++ name_words d.name
 frame_words (ANack reason whole i) = nack_words reason i.name
 frame_words Idle = codes "idle"
 
@@ -59,7 +71,7 @@ key_of frame = signer_of (signature_in frame)
 
 abbrev pub named_words : Option (List Field) → List ℕ
 named_words None = []
-named_words (Some name) = codes ", key " ++ uri_of name
+named_words (Some name) = codes ", key " ++ name_words name
 
 abbrev pub key_words : Option PlainFrame → List ℕ
 key_words frame = named_words (key_of frame)

@@ -1,7 +1,7 @@
 //! Events as a log shows them.
 
 ghost use Rattle.std.specs.Prelude.{◌≡◌};
-ghost use Rattle.ndn_log.specs.Entry.{is_plain, is_plain_outcome, octets_in};
+ghost use Rattle.ndn_log.specs.Entry.{is_plain, is_plain_outcome, is_refusal, octets_in, refused_on};
 
 use forwarder::{Scope, Verdict};
 use ndn_tlv::Memory;
@@ -49,6 +49,28 @@ fn is_plain_outcome(outcome: &Result<Verdict, Memory>) -> bool
     match outcome {
         Ok(Verdict::Passed) => true,
         Ok(Verdict::DataAllowed(_)) => true,
+        _ => false,
+    }
+}
+
+/// Returns the face of a packet that was denied or dropped, or the face that could not open, or
+/// `None` for another event.
+pub fn refused_on(entry: &Entry<'_>, outcome: &Result<Verdict, Memory>) -> Option<u64>
+    ensures { result ≡ refused_on entry.now.came outcome.now }
+{
+    match entry.came {
+        Came::Packet { face, .. } | Came::Opened { face, .. } if is_refusal(outcome) => Some(face),
+        _ => None,
+    }
+}
+
+fn is_refusal(outcome: &Result<Verdict, Memory>) -> bool
+    ensures { result ≡ is_refusal outcome.now }
+{
+    match outcome {
+        Ok(Verdict::Denied(..)) => true,
+        Ok(Verdict::NoRule(_)) => true,
+        Ok(Verdict::Dropped(_)) => true,
         _ => false,
     }
 }

@@ -1,9 +1,11 @@
 //! The lines of a log for operators. There are lines about the events of a node, failed sends,
-//! closed faces, and datagrams that were dropped because their endpoints are not peers.
+//! closed faces, datagrams that were dropped because their endpoints are not peers, and lines that
+//! were left out because of limits.
 #![tactic(auto)]
 
 mod entry;
 mod event;
+mod limits;
 mod line;
 mod notes;
 mod packet;
@@ -11,6 +13,7 @@ mod time;
 mod verdict;
 mod words;
 
-pub use entry::{Came, Entry, is_plain};
+pub use entry::{Came, Entry, is_plain, refused_on};
 pub use event::put_event;
-pub use notes::{put_closed, put_failed_send, put_strangers};
+pub use limits::{LineLimits, ShownLine, limits_follow_what_came, shown_lines_are_limited};
+pub use notes::{put_closed, put_failed_send, put_left_out, put_strangers};

@@ -1,10 +1,12 @@
-//! Log lines about failed sends, closed faces, and datagrams from endpoints that are not peers.
+//! Log lines about failed sends, closed faces, datagrams from endpoints that are not peers, and
+//! lines that were left out.
 
-ghost use Rattle.std.specs.Prelude.{◌≡◌, ◌++◌, drop, vec_len, IfOk, OnErr, OnOk};
-ghost use Rattle.ndn_log.specs.Line.{IsLogged, IsOneLine};
+ghost use Rattle.std.specs.Prelude.{◌≡◌, ◌++◌, List, ℕ, drop, flat_map, vec_len, IfOk, OnErr, OnOk};
+ghost use Rattle.ndn_log.specs.Line.{AreLogged, IsLogged, IsOneLine};
 ghost use Rattle.ndn_log.specs.Words.{counted};
-ghost use Rattle.ndn_log.specs.Notes.{closed_words, failed_send_words, stranger_words};
+ghost use Rattle.ndn_log.specs.Notes.{closed_words, failed_send_words, left_out_texts, left_texts, left_words, others_texts, others_words, stranger_words};
 
+use crate::limits::{LineLimits, SECOND_LINES, ShownLine};
 use crate::line::put_line;
 use crate::words::{put_count, put_face, put_octets, put_word};
 use ndn_tlv::Memory;
@@ -91,5 +93,107 @@ fn failed_send_words(
     put_face(&mut words, face, endpoint)?;
     put_word(&mut words, " failed: ")?;
     put_octets(alloc, &mut words, octets)?;
+    Ok(words)
+}
+
+/// Appends lines that tell how many lines were left out (`LineLimits`): a line for each face with
+/// lines that were left out because of the limit on this face, and a line for those that were left
+/// out only because of the limit on all faces. No line has the number 0. If memory runs out,
+/// nothing is appended.
+pub fn put_left_out(
+    alloc: Global,
+    text: &mut Vec<u8>,
+    moment: u64,
+    limits: &LineLimits,
+) -> Result<(), Memory>
+    ensures ok { OnOk result (AreLogged text.old.items text.new.items moment
+        (left_out_texts limits.now)) }
+    ensures err { OnErr result (text.new.items ≡ text.old.items) }
+{
+    let start = text.len();
+    let put = put_all_left(alloc, text, moment, limits);
+    if put.is_err() {
+        text.truncate(start);
+    }
+    put
+}
+
+/// As `put_left_out`, but if memory runs out, some of the lines may be appended.
+fn put_all_left(
+    alloc: Global,
+    text: &mut Vec<u8>,
+    moment: u64,
+    limits: &LineLimits,
+) -> Result<(), Memory>
+    ensures ok { OnOk result (AreLogged text.old.items text.new.items moment
+        (left_out_texts limits.now)) }
+    ensures err { OnErr result ((more : List ℕ) × (text.new.items ≡ text.old.items ++ more)) }
+{
+    put_faces_left(alloc, text, moment, limits.shown())?;
+    put_others(alloc, text, moment, limits.others())
+}
+
+fn put_faces_left(
+    alloc: Global,
+    text: &mut Vec<u8>,
+    moment: u64,
+    shown: &[ShownLine],
+) -> Result<(), Memory>
+    ensures ok { OnOk result (AreLogged text.old.items text.new.items moment
+        (flat_map left_texts shown.now)) }
+    ensures err { OnErr result ((more : List ℕ) × (text.new.items ≡ text.old.items ++ more)) }
+{
+    for line in shown {
+        put_face_left(alloc, text, moment, *line)?;
+    }
+    Ok(())
+}
+
+fn put_face_left(
+    alloc: Global,
+    text: &mut Vec<u8>,
+    moment: u64,
+    line: ShownLine,
+) -> Result<(), Memory>
+    ensures ok { OnOk result (AreLogged text.old.items text.new.items moment (left_texts line)) }
+    ensures err { OnErr result (text.new.items ≡ text.old.items) }
+{
+    if line.left == 0 {
+        return Ok(());
+    }
+    let words = left_words(alloc, line.face, line.left)?;
+    put_line(alloc, text, moment, &words)
+}
+
+fn left_words(alloc: Global, face: u64, count: u64) -> Result<Vec<u8>, Memory>
+    ensures { IfOk result (λ words. words.items ≡ left_words face count) }
+{
+    let mut words = Vec::new(alloc);
+    put_face(&mut words, face, None)?;
+    put_word(&mut words, ": ")?;
+    put_count(&mut words, count, "more line")?;
+    Ok(words)
+}
+
+fn put_others(alloc: Global, text: &mut Vec<u8>, moment: u64, count: u64) -> Result<(), Memory>
+    ensures ok { OnOk result (AreLogged text.old.items text.new.items moment
+        (others_texts count)) }
+    ensures err { OnErr result (text.new.items ≡ text.old.items) }
+{
+    if count == 0 {
+        return Ok(());
+    }
+    let words = others_words(alloc, count)?;
+    put_line(alloc, text, moment, &words)
+}
+
+fn others_words(alloc: Global, count: u64) -> Result<Vec<u8>, Memory>
+    ensures { IfOk result (λ words. words.items ≡ others_words count) }
+{
+    let mut words = Vec::new(alloc);
+    put_word(&mut words, "above ")?;
+    put_count(&mut words, SECOND_LINES as u64, "line")?;
+    put_word(&mut words, " a second: ")?;
+    put_count(&mut words, count, "more line")?;
     Ok(words)
 }
