@@ -4,10 +4,14 @@ ghost use Rattle.std.specs.Io.KnownBytes.{Appends};
 ghost use Rattle.node_ports.specs.Step.{one_more};
 ghost use Rattle.ndn_log.specs.Event.{event_words};
 ghost use Rattle.ndn_log.specs.Notes.{closed_words, failed_send_words, stranger_words};
-ghost use Rattle.ndn_daemon.specs.EventLog.{MayLog, SaysCount, closed_with, is_left_out};
+ghost use Rattle.ndn_log.specs.Limits.{LimitsState, begun};
+ghost use Rattle.ndn_daemon.specs.EventLog.{Begins, MayLog, SaysCount, TellsLeftOut, closed_with, is_held, is_left_out, limited_event, limited_send, limits_with};
 
 use info_rules::Rules;
-use ndn_log::{Came, Entry, is_plain, put_closed, put_event, put_failed_send, put_strangers};
+use ndn_log::{
+    Came, Entry, LineLimits, is_plain, put_closed, put_event, put_failed_send, put_left_out,
+    put_strangers, refused_on,
+};
 use ndn_tlv::Memory;
 use node_core::Verdict;
 use std::alloc::Global;
@@ -79,17 +83,22 @@ pub struct EventLog<S: LogSink> {
     strangers: u64,
     // The time of the last report of a count, or 0 if no count was reported yet.
     counted: u64,
+    // How many lines about denied and dropped packets and failed sends were shown and left out in
+    // one second.
+    limits: LineLimits,
 }
 
 impl<S: LogSink> EventLog<S> {
     /// Returns a log without lines. If `shows_all` is false, the log leaves out plain events
-    /// (`ndn_log::is_plain`).
+    /// (`ndn_log::is_plain`), and limits the lines about denied and dropped packets and about
+    /// failed sends (`ndn_log::LineLimits`).
     pub fn new(alloc: Global, sink: S, shows_all: bool) -> EventLog<S>
         ensures text { result.text.items ≡ [] }
         ensures later { result.later.items ≡ [] }
         ensures shows_all { result.shows_all ≡ shows_all }
         ensures sink { result.sink ≡ sink }
         ensures counts { (result.closed ≡ 0) × (result.strangers ≡ 0) }
+        ensures limits { result.limits ≡ begun 0 }
     {
         EventLog {
             alloc,
@@ -101,6 +110,7 @@ impl<S: LogSink> EventLog<S> {
             closed: 0,
             strangers: 0,
             counted: 0,
+            limits: LineLimits::new(),
         }
     }
 
@@ -119,25 +129,71 @@ impl<S: LogSink> EventLog<S> {
     }
 
     /// Appends the line of an event, if the log shows the event. If the log leaves out the closing
-    /// of a face, the face is counted.
+    /// of a face, the face is counted. If the limits leave out the line of a denied or dropped
+    /// packet, the line is counted. Call `begin` with the time of the event before: a limited line
+    /// whose second has not begun is left out.
     pub fn put_event(&mut self, entry: &Entry<'_>, outcome: &Result<Verdict, Memory>, rules: &Rules)
         ensures left_out { is_left_out self.old.shows_all entry.now.came outcome.now ≡ true
+            → self.new.text.items ≡ self.old.text.items }
+        ensures held { is_held self.old.limits entry.now.moment
+            (limited_event self.old.shows_all entry.now.came outcome.now) ≡ true
             → self.new.text.items ≡ self.old.text.items }
         ensures shown { MayLog self.old.text.items self.new.text.items entry.now.moment
             (event_words rules.now entry.now outcome.now) }
         ensures closed { self.new.closed ≡ closed_with
             (is_left_out self.old.shows_all entry.now.came outcome.now) entry.now.came
             self.old.closed }
+        ensures limits { self.new.limits ≡ limits_with self.old.limits entry.now.moment
+            (limited_event self.old.shows_all entry.now.came outcome.now) }
         ensures others { self.new ≡ record self.old {
           text = self.new.text;
           closed = self.new.closed;
+          limits = self.new.limits;
         } }
     {
+        let limited = self.limited_event(entry, outcome);
+        let held = self.holds(entry.moment, limited);
         if !self.shows_all && is_plain(entry, outcome) {
             self.count_closed(&entry.came);
             return;
         }
+        if held {
+            return;
+        }
         let _put = put_event(self.alloc, &mut self.text, entry, outcome, rules);
+    }
+
+    /// Returns the face of an event whose line is limited, or `None` if its line is not limited.
+    fn limited_event(&self, entry: &Entry<'_>, outcome: &Result<Verdict, Memory>) -> Option<u64>
+        ensures { result ≡ limited_event self.now.shows_all entry.now.came outcome.now }
+    {
+        if self.shows_all {
+            None
+        } else {
+            refused_on(entry, outcome)
+        }
+    }
+
+    /// Returns the face of a failed send whose line is limited, or `None` if its line is not
+    /// limited.
+    fn limited_send(&self, face: u64) -> Option<u64>
+        ensures { result ≡ limited_send self.now.shows_all face }
+    {
+        if self.shows_all { None } else { Some(face) }
+    }
+
+    /// Returns whether the limits leave out a line of `face`, and counts the line. For `None`, the
+    /// line is not limited.
+    fn holds(&mut self, moment: u64, face: Option<u64>) -> bool
+        ensures held { result ≡ is_held self.old.limits moment face }
+        ensures others { self.new ≡ record self.old {
+          limits = limits_with self.old.limits moment face;
+        } }
+    {
+        match face {
+            Some(face) => !self.limits.admit(moment, face),
+            None => false,
+        }
     }
 
     /// Counts the event if it is the closing of a face.
@@ -152,7 +208,8 @@ impl<S: LogSink> EventLog<S> {
     }
 
     /// Stores the line of a failed send until `put_later` is called, so that the line of the event
-    /// that caused the send comes first. If memory runs out, nothing is stored.
+    /// that caused the send comes first. If memory runs out, or if the limits leave out the line,
+    /// nothing is stored. Calls `begin` first.
     pub fn put_failed_send(
         &mut self,
         moment: u64,
@@ -162,8 +219,24 @@ impl<S: LogSink> EventLog<S> {
     )
         ensures later { MayLog self.old.later.items self.new.later.items moment
             (failed_send_words face endpoint octets.now) }
-        ensures others { self.new ≡ record self.old { later = self.new.later } }
+        ensures first { self.old.text.items ≡ [] → self.new.since ≡ moment }
+        ensures limits { (began : LimitsState)
+            × Begins self.old.text.items self.new.text.items moment self.old.limits began
+            × (self.new.limits ≡ limits_with began moment (limited_send self.old.shows_all face))
+            × (is_held began moment (limited_send self.old.shows_all face) ≡ true
+            → self.new.later.items ≡ self.old.later.items) }
+        ensures others { self.new ≡ record self.old {
+          later = self.new.later;
+          text = self.new.text;
+          since = self.new.since;
+          limits = self.new.limits;
+        } }
     {
+        self.begin(moment);
+        let limited = self.limited_send(face);
+        if self.holds(moment, limited) {
+            return;
+        }
         let _put = put_failed_send(self.alloc, &mut self.later, moment, face, endpoint, octets);
     }
 
@@ -281,13 +354,40 @@ impl<S: LogSink> EventLog<S> {
     }
 
     /// Prepares for appending a line with the time `moment`. If no lines are waiting to be written,
-    /// stores `moment` as the time of the first line.
+    /// stores `moment` as the time of the first line. If `moment` is in another second than the
+    /// lines that the limits count, appends lines that tell how many lines were left out, and
+    /// begins the second of `moment`.
     pub fn begin(&mut self, moment: u64)
         ensures first { self.old.text.items ≡ [] → self.new.since ≡ moment }
-        ensures others { self.new ≡ record self.old { since = self.new.since } }
+        ensures begins { Begins self.old.text.items self.new.text.items moment
+            self.old.limits self.new.limits }
+        ensures others { self.new ≡ record self.old {
+          since = self.new.since;
+          text = self.new.text;
+          limits = self.new.limits;
+        } }
     {
         if self.text.is_empty() {
             self.since = moment;
+        }
+        if self.limits.is_over(moment) {
+            self.put_left_out(moment);
+        }
+    }
+
+    /// Appends lines that tell how many lines the limits left out (`ndn_log::put_left_out`), and
+    /// begins the second of `moment`. If memory runs out, nothing changes.
+    pub fn put_left_out(&mut self, moment: u64)
+        ensures told { TellsLeftOut self.old.text.items self.new.text.items moment
+            self.old.limits self.new.limits }
+        ensures others { self.new ≡ record self.old {
+          text = self.new.text;
+          limits = self.new.limits;
+        } }
+    {
+        let put = put_left_out(self.alloc, &mut self.text, moment, &self.limits);
+        if put.is_ok() {
+            self.limits.begin(moment);
         }
     }
 

@@ -108,11 +108,12 @@ impl<P: Ports + HasEndpoints + Drop, S: LogSink> LoggedPorts<P, S> {
         }
     }
 
-    /// Appends lines with the counts to the log, writes all buffered lines of the log, and returns
-    /// the underlying ports and the destination of the log.
+    /// Appends lines with the counts to the log, also of lines that were left out, writes all
+    /// buffered lines of the log, and returns the underlying ports and the destination of the log.
     pub fn finish(mut self) -> (P, S)
         ensures { result.0 ≡ self.ports }
     {
+        self.log.put_left_out(self.moment);
         self.log.put_counts_now(self.moment, self.ports.strangers());
         self.log.write_out();
         (self.ports, self.log.into_sink())
