@@ -5,6 +5,8 @@
 #[cfg(test)]
 mod command_line;
 #[cfg(test)]
+mod limited_lines;
+#[cfg(test)]
 mod limits;
 #[cfg(test)]
 mod log_lines;

@@ -118,6 +118,33 @@ fn says_more(alloc: Global) -> bool {
     )
 }
 
+/// Returns whether the line of an Interest has the first 200 characters of the Interest's name, and
+/// ends with `end`. The name has one component of `count` letters `a`, at most 200.
+fn cuts_name(alloc: Global, count: u8, end: &str) -> Option<bool> {
+    let letters = vec![in alloc; b'a'; count as usize].ok()?;
+    let len = count.min(200);
+    let mut octets = Vec::new(alloc);
+    octets
+        .extend_from_slice(&[5, len + 10, 7, len + 2, 8, len])
+        .ok()?;
+    octets.extend_from_slice(&letters).ok()?;
+    octets.extend_from_slice(&[10, 4, 1, 2, 3, 4]).ok()?;
+    let came = Came::Packet {
+        face: 2,
+        octets: &octets,
+    };
+    let line = shown(alloc, came, Verdict::Passed)?;
+    let mut wanted = Vec::from_slice(alloc, NAMED).ok()?;
+    wanted
+        .extend_from_slice(&vec![in alloc; b'a'; 199].ok()?)
+        .ok()?;
+    wanted.extend_from_slice(end.as_bytes()).ok()?;
+    Some(line.as_slice() == wanted.as_slice())
+}
+
+/// The beginning of the line of an Interest, with the first character of its name.
+const NAMED: &[u8] = b"2026-11-27T22:10:00.123Z face 2 192.0.2.7:6363 Interest /";
+
 /// Returns four lines of a log. The first line tells that a face closed at the last time that a log
 /// shows as a date. The second line tells that two faces closed one millisecond later. The last two
 /// lines tell of a failed send, and of a datagram from a stranger.
@@ -207,4 +234,10 @@ fn lines_of_events(rt: HostRuntime) {
 #[test]
 fn lines_of_notes(rt: HostRuntime) {
     assert!(rt; shown_notes(rt.alloc()).is_some_and(|text| text.as_slice() == NOTES.as_bytes()));
+}
+
+#[test]
+fn long_names(rt: HostRuntime) {
+    assert!(rt; cuts_name(rt.alloc(), 199, ": passed\n") == Some(true));
+    assert!(rt; cuts_name(rt.alloc(), 200, "..: passed\n") == Some(true));
 }
