@@ -16,3 +16,4 @@ pub mod Along
 pub mod Seen
 pub mod Shown
 pub mod Heads
+pub mod Steps

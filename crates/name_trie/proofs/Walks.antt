@@ -86,7 +86,7 @@ module _ {V : Type 0} (h : Heap V) where
   pub lookup_none : (q : List Field) → lookup h None q ≡ None
   lookup_none q = ap (option_and_then (value h)) (walk_none q)
 
-  linked : (o : Option (Node V)) (c : Field) → find component_cmp c (links_of o) ≡ option_and_then (λ n. get n.children c) o
+  pub linked : (o : Option (Node V)) (c : Field) → find component_cmp c (links_of o) ≡ option_and_then (λ n. get n.children c) o
   linked None c = refl
   linked (Some n) c = sym (get-entries n.children c)
 

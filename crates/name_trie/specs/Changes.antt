@@ -2,31 +2,33 @@
 use Rattle.std.specs.Prelude.{◌≡◌, ◌≢◌, ◌<◌, ℕ, List, length, Option, None, Some, IsSome}
 use Rattle.std.specs.FinMap.{empty, insert}
 use Rattle.ndn_tlv.specs.Element.{Field}
+use Rattle.name_trie.specs.declared.component_buf.Hint.{Hint}
 use Rattle.name_trie.specs.declared.node.Node.{Node}
 use Rattle.std.specs.Option.{option_map}
 use Rattle.name_trie.specs.ByName.{revise}
+use Rattle.name_trie.specs.Hint.{hint_of, root_hint}
 use Rattle.name_trie.specs.Links.{unless, unless_is}
 use Rattle.name_trie.specs.Trie.{Heap, child, value, up, walk, lookup}
 
--- a node with this optional parent, and with neither a value nor children
-abbrev pub bare : {V : Type 0} → Option ℕ → Node V
-bare parent = record { parent = parent; hint = tt; children = empty; value = None }
+-- a node with this hint and this optional parent, and with neither a value nor children
+abbrev pub bare : {V : Type 0} → Hint → Option ℕ → Node V
+bare hint parent = record { parent = parent; hint = hint; children = empty; value = None }
 
 module _ {V : Type 0} where
-  -- A new node k is added as the child of node `at` for the component `c`. The new node has no
-  -- value and no children. No node other than k and `at` changes.
+  -- A new node k is added as the child of node `at` for the component `c`. The new node has the hint
+  -- for `c`, no value and no children. No node other than k and `at` changes.
   pub record Joins (k at : ℕ) (c : Field) (h h' : Heap V) : Type 0 where
     pub node : Node V
     pub there : h at ≡ Some node
     pub fresh : h k ≡ None
-    pub leaf : h' k ≡ Some (bare (Some at))
+    pub leaf : h' k ≡ Some (bare (hint_of c) (Some at))
     pub above : h' at ≡ Some (record node { children = insert node.children c k })
     pub others : (j : ℕ) → j ≢ k → j ≢ at → h' j ≡ h j
 
   -- A new node k is added. It has no parent, no value and no children. No other node changes.
   pub record Starts (k : ℕ) (h h' : Heap V) : Type 0 where
     pub fresh : h k ≡ None
-    pub leaf : h' k ≡ Some (bare None)
+    pub leaf : h' k ≡ Some (bare root_hint None)
     pub others : (j : ℕ) → j ≢ k → h' j ≡ h j
 
   -- The node k exists, and has no value and no children.

@@ -1,5 +1,6 @@
 pub mod ByName
 pub mod NameTable
+pub mod Steps
 pub mod Links
 pub mod Trie
 pub mod Changes
@@ -8,5 +9,6 @@ pub mod Flat
 pub mod Least
 pub mod Taken
 pub mod Head
+pub mod Hint
 pub mod Rows
 pub mod Shown

@@ -51,6 +51,12 @@ module _ {V : Type 0} (h : Heap V) where
   abbrev pub lookup : Option ℕ → List Field → Option V
   lookup o name = option_and_then value (walk o name)
 
+  -- the number of nodes on a walk from the node o along a name, without the node of the whole name
+  abbrev pub steps : Option ℕ → List Field → ℕ
+  steps None name = 0
+  steps (Some k) [] = 0
+  steps (Some k) (c ∷ cs) = suc (steps (child k c) cs)
+
   -- the names of fewer than n components that lead from the node o to a value, with their values,
   -- in canonical order
   unfoldable pub rows : ℕ → Option ℕ → List (List Field × V)

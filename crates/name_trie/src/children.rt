@@ -7,6 +7,7 @@ ghost use Rattle.ndn_names.specs.Order.{component_cmp};
 ghost use Rattle.ndn_names.specs.View.{field_of};
 ghost use Rattle.name_trie.specs.ByName.{revise};
 ghost use Rattle.name_trie.specs.Links.{unless_is};
+ghost use Rattle.name_trie.specs.Hint.{IsPlace};
 
 use crate::component_buf::{ComponentBuf, Hint, head_of};
 use crate::rows::Rows;
@@ -118,7 +119,9 @@ impl Children {
 /// Returns the index of the first row that is not before `hint`, or the number of rows if all rows
 /// are before `hint`. Exception: returns 0 if there are fewer than two rows.
 fn start_of(rows: &[(ComponentBuf, usize)], hint: &Hint) -> usize
-    ensures { result ≤ length rows.now }
+    ensures within { result ≤ length rows.now }
+    ensures few { length rows.now < 2 → result ≡ 0 }
+    ensures place { 2 ≤ length rows.now → IsPlace hint.now rows.now result }
 {
     if rows.len() < 2 {
         return 0;

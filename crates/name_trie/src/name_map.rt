@@ -1,9 +1,10 @@
-ghost use Rattle.std.specs.Prelude.{option_and_then, fold, [], ◌≡◌, ◌<◌, ◌≤◌, ◌+◌, ◌^◌, ◌⊎◌, None, Some, length, map as list_map, IsOk, IfOk, IsSome, OnOk, OnErr};
+ghost use Rattle.std.specs.Prelude.{ℕ, option_and_then, fold, [], ◌≡◌, ◌<◌, ◌≤◌, ◌+◌, ◌^◌, ◌⊎◌, None, Some, length, map as list_map, IsOk, IfOk, IsSome, OnOk, OnErr};
 ghost use Rattle.std.specs.FinMap as map;
 ghost use Rattle.std.specs.Option.{option_map};
 ghost use Rattle.ndn_names.specs.View.{components};
 ghost use Rattle.name_trie.specs.ByName.{longest as longest_in, revise, with_value};
 ghost use Rattle.name_trie.specs.Taken.{taken_along};
+ghost use Rattle.name_trie.specs.Steps.{TakesSteps};
 ghost use Rattle.name_trie.specs.Shown.{known_at, shown_known};
 
 use crate::becomes::Becomes;
@@ -175,6 +176,8 @@ impl<V: Drop> NameMap<V> {
             (map.get self.now.table) [] (components name.entry) }
         ensures counted { steps.old ≤ steps.new }
         ensures cost { steps.new ≤ steps.old + length (components name.entry) }
+        ensures exact { (n : ℕ) × TakesSteps self.now (components name.entry) n
+            × (steps.new ≡ steps.old + n) }
     {
         self.trie.see_along(name, steps, see);
     }

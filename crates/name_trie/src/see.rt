@@ -1,7 +1,7 @@
 ghost use Rattle.std.specs.Prelude.{◌≡◌, ◌+◌, ◌<◌, ◌≤◌, ◌^◌, [], Some, fold, length, map};
 ghost use Rattle.slab.specs.Slab.{get};
 ghost use Rattle.ndn_names.specs.View.{components};
-ghost use Rattle.name_trie.specs.Trie.{value as value_in, lookup, rows};
+ghost use Rattle.name_trie.specs.Trie.{value as value_in, lookup, rows, steps as steps_of};
 ghost use Rattle.name_trie.specs.Taken.{taken, taken_along};
 
 use crate::node::{Node, child_of, value_of};
@@ -41,6 +41,7 @@ pub fn see_along<V, S: See<V>>(
         (lookup (get nodes.now) root) [] (components name.entry) }
     ensures counted { steps.old ≤ steps.new }
     ensures cost { steps.new ≤ steps.old + length (components name.entry) }
+    ensures exact { steps.new ≡ steps.old + steps_of (get nodes.now) root (components name.entry) }
 {
     let mut next = root;
     let mut rest = name.iter();

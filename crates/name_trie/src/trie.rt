@@ -10,6 +10,7 @@ ghost use Rattle.name_trie.specs.ByName.{longest as longest_in, revise, with_val
 ghost use Rattle.name_trie.specs.Trie.{value as value_in, walk, lookup, Sound};
 ghost use Rattle.name_trie.specs.Changes.{SameLookups, IsBare, IsTidy};
 ghost use Rattle.name_trie.specs.Taken.{taken_along};
+ghost use Rattle.name_trie.specs.Steps.{TakesSteps};
 ghost use Rattle.name_trie.specs.Shown.{known_at, shown_known};
 
 use crate::becomes::{Becomes, put_at};
@@ -263,6 +264,8 @@ impl<V: Drop> NameTrie<V> {
             (map.get self.now.table) [] (components name.entry) }
         ensures counted { steps.old ≤ steps.new }
         ensures cost { steps.new ≤ steps.old + length (components name.entry) }
+        ensures exact { (n : ℕ) × TakesSteps self.now (components name.entry) n
+            × (steps.new ≡ steps.old + n) }
     {
         see_along(&self.nodes, self.root, name, steps, see);
     }

@@ -3,7 +3,9 @@ use Rattle.std.specs.Prelude.{Option, Some, None, Result, Ok, Err, OnOk, OnErr, 
 use Rattle.std.specs.Result.{is_err}
 use Rattle.slab.specs.Slab.{get, with_value}
 use Rattle.slab.proofs.SlabLemmas.{Updates-with_value}
-use Rattle.std.specs.FinMap.{insert}
+use Rattle.std.specs.FinMap.{empty, insert}
+use Rattle.name_trie.specs.declared.component_buf.Hint.{Hint}
+use Rattle.name_trie.specs.Hint.{hint_of}
 use Rattle.name_trie.specs.Links.{Links}
 use Rattle.name_trie.proofs.Changed.{same_or}
 use Rattle.name_trie.proofs.node.add_child.Goals as goal
@@ -54,7 +56,8 @@ returns-clause-ok g c =
       node = node;
       there = there;
       fresh = c.in_ok-k.ensures.was_vacant;
-      leaf = wrote.others k (λ e. ne (sym e)) ∙ added.changed ∙ ap (λ (m : Links). Some (record { parent = Some at; hint = tt; children = m; value = None })) c.new.ensures;
+      leaf = wrote.others k (λ e. ne (sym e)) ∙ added.changed ∙ ap (λ (m : Links). Some (record { parent = Some at; hint = c.hint.result; children = m; value = None })) c.new.ensures
+          ∙ ap (λ (x : Hint). Some (record { parent = Some at; hint = x; children = empty; value = None })) (c.hint.ensures ∙ ap hint_of c.in_ok-key.ensures);
       above = wrote.changed ∙ ap (λ (m : Links). Some (record node { children = m })) (on_ok c.insert-2.result _ (sym c.is_err.ensures.value ∙ c.if-is_err.false) c.insert-2.ensures.ok ∙ ap (λ x. insert node.children x k) c.in_ok-key.ensures);
       others = λ j not_k not_at. wrote.others j not_at ∙ added.others j not_k;
     }

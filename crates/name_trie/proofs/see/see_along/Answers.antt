@@ -1,9 +1,9 @@
-use Rattle.std.proofs.Common.{◌≡◌, [], ◌∷◌, ◌++◌, append_assoc, length, arith, ap, sym, ◌∙◌}
+use Rattle.std.proofs.Common.{◌≡◌, suc, [], ◌∷◌, ◌++◌, append_assoc, length, arith, ap, sym, ◌∙◌}
 use Rattle.std.specs.Prelude.{Some}
 use Rattle.std.specs.Option.{option_and_then}
 use Rattle.slab.specs.Slab.{get}
 use Rattle.ndn_names.specs.View.{components_left, field_of}
-use Rattle.name_trie.specs.Trie.{value, down, walk, lookup}
+use Rattle.name_trie.specs.Trie.{value, child, down, walk, lookup, steps}
 use Rattle.name_trie.specs.Taken.{taken, taken_along}
 use Rattle.name_trie.proofs.Along.{nothing_taken, nothing_below}
 use Rattle.name_trie.proofs.Changed.{walk-append}
@@ -30,6 +30,11 @@ loop-next-preserved g c =
       );
       counted = omega (arith, c.loop-next.invariant.counted);
       cost = omega (arith, c.loop-next.invariant.cost, longer);
+      exact =
+          let taken_one : steps h c.loop-next.next (components_left c.loop-next.rest) ≡ suc (steps h (child h c.in-Some.at x) rest) =
+          ap (λ o. steps h o (components_left c.loop-next.rest)) c.in-Some.is ∙ ap (steps h (Some c.in-Some.at)) c.in-Some-next.ensures.steps in
+          let reached : steps h c.child_of-next.result rest ≡ steps h (child h c.in-Some.at x) rest = ap (λ o. steps h o rest) c.child_of-next.ensures in
+          omega (arith, c.loop-next.invariant.exact, taken_one, reached);
       small = c.loop-next.invariant.small;
     }
 
@@ -43,3 +48,9 @@ returns-clause-seen g c =
     let path = c.loop-next.invariant.path in
     sym (nothing_taken seen seen c.loop-next.see (lookup h root) path.0 (components_left c.loop-next.rest) (nothing_below h root path.0 (path.2 ∙ c.in_default.is)))
     ∙ path.3
+
+pub returns-clause-exact : goal.returns-clause-exact
+returns-clause-exact g c =
+    let h = get c.args.nodes.now in
+    let over : steps h c.loop-next.next (components_left c.loop-next.rest) ≡ 0 = ap (λ o. steps h o (components_left c.loop-next.rest)) c.in_default.is in
+    omega (arith, c.loop-next.invariant.exact, over)
