@@ -70,6 +70,12 @@ found_at rows at r valid lt is = lookup_from_place nat_eq_equiv rows at r.0 r.1 
 all_at : (P : Placed → Type 0) (rows : List Placed) (at : ℕ) (r : Placed) → AllByRecursion P rows → at < length rows → get_or rows at r ≡ r → P r
 all_at P rows at r h lt is = subst P is (All-from_recursion P rows h at r lt)
 
+-- the Data of the row at a position of the list is cached
+pub is_cached_at : (rows : List Placed) (used : List (ℕ × ℕ)) (next : ℕ) → Sound rows used next → (at : ℕ) (r : Placed) → at < length rows → get_or rows at r ≡ r → Contains (cached_in rows used) (held_at r)
+is_cached_at rows used next sound at r lt is =
+    contains_cached (held_in rows) r.1.serial r.0 (held_at r) used
+    (all_at (λ x. lookup (nat_eq x.1.serial) used ≡ Some x.0) rows at r sound.back lt is) (ap (λ o. option_map (λ (x : Row). x.entry) o) (found_at rows at r sound.valid lt is))
+
 module _ (P : CachedData → Type 0) (rows : List Placed) (used : List (ℕ × ℕ)) (next : ℕ) (sound : Sound rows used next) where
   pub each : (Q : CachedData → Type 0) → ((k : ℕ) (row : Row) (q : ℕ) → k < length rows → ((d : Placed) → get_or rows k d ≡ (q, row)) → Q row.entry) → All Q (cached_in rows used)
   each Q f =
@@ -83,10 +89,8 @@ module _ (P : CachedData → Type 0) (rows : List Placed) (used : List (ℕ × �
 
   pub first_is_least : (at : ℕ) (r : Placed) → get_or rows at r ≡ r → FirstWith P rows (Some at) → IsLeast P (cached_in rows used) (held_at r)
   first_is_least at r is first =
-      let found = found_at rows at r sound.valid first.0 is in
       record {
-        is_cached = contains_cached (held_in rows) r.1.serial r.0 (held_at r) used
-            (all_at (λ x. lookup (nat_eq x.1.serial) used ≡ Some x.0) rows at r sound.back first.0 is) (ap (λ o. option_map (λ (x : Row). x.entry) o) found);
+        is_cached = is_cached_at rows used next sound at r first.0 is;
         has = subst (λ (x : Placed). P (held_at x)) is (first.1 r);
         none_less = each (λ d. P d → Less (full_name_of d) (name_at r) → ⊥)
             (λ k row q lt here has less. elim (order_of k at) [

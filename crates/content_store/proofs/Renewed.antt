@@ -152,7 +152,7 @@ sound_none next = record {
   each_data = tt;
 }
 
-none_cached : cached_in [] [] ≡ []
+pub none_cached : cached_in [] [] ≡ []
 unfolding cached_by
 none_cached = refl
 

@@ -1,11 +1,12 @@
-ghost use Rattle.std.specs.Prelude.{◌≡◌, ◌↔◌, ◌⊎◌, ◌+◌, ◌-◌, ◌<◌, ◌≤◌, ◌^◌, [], ℕ, length, insert, slice_index_or, Err, IsTrue, false, IfOk, MatchOption};
+ghost use Rattle.std.specs.Prelude.{◌≡◌, ◌≢◌, ◌↔◌, ◌⊎◌, ◌+◌, ◌-◌, ◌<◌, ◌≤◌, ◌^◌, [], ◌∷◌, ℕ, length, take, insert, slice_index_or, Err, IsTrue, false, IfOk, MatchOption};
 ghost use Rattle.std.specs.Option.{option_map};
 ghost use Rattle.std.specs.List.{All, Contains};
 ghost use Rattle.ndn_names.specs.View.{components};
 ghost use Rattle.ndn_packets.specs.Key.{plain_key};
-ghost use Rattle.content_store.specs.Store.{CachedData, IsLeast, IsStore, CanServe, GivesData, Finds, Erases, LosesSome, StoreState, cached_at, full_name_of, with_cached};
+ghost use Rattle.content_store.specs.Store.{CachedData, IsLeast, IsStore, CanServe, GivesData, Finds, Erases, LosesSome, StoreState, cached_at, full_name_of, with_cached, without};
 ghost use Rattle.content_store.specs.Rows.{Placed, Rising, name_at};
-ghost use Rattle.content_store.specs.Uses.{UsesAt, Sound, PutsNew, Renews};
+ghost use Rattle.content_store.specs.Uses.{IsHeld, UsesAt, Sound, PutsNew, Renews, cached_in};
+ghost use Rattle.lru.specs.LruCache.{lru_cache};
 ghost use Rattle.content_store.specs.declared.fault.StoreFault.TheVariants as faults;
 
 use crate::entry::Entry;
@@ -130,28 +131,14 @@ impl Store {
         ensures capacity { self.new.capacity ≡ self.old.capacity }
         ensures store { IsStore self.new }
     {
-        let at = self.rows.place_for(Sought::Full(packet.name, packet.whole));
-        if self.rows.is_full(at, packet.name, packet.whole) {
-            return put_same(&mut self.rows, &mut self.used, at, packet, arrival);
-        }
-        if self.next == u64::MAX {
-            self.rows.clear();
-            self.used.clear();
-            self.next = 0;
-            return false;
-        }
-        let Ok(entry) = Entry::new(self.alloc, packet, arrival) else {
-            return false;
-        };
-        let row = Row {
-            entry,
-            serial: self.next,
-        };
-        if !put_new(&mut self.rows, &mut self.used, at, row) {
-            return false;
-        }
-        self.next += 1;
-        true
+        put_data(
+            self.alloc,
+            &mut self.rows,
+            &mut self.used,
+            &mut self.next,
+            packet,
+            arrival,
+        )
     }
 
     /// Among the cached Data that answer an Interest of this key, finds the one with the least full
@@ -230,6 +217,61 @@ impl Store {
         let most = count.unwrap_or(u64::MAX);
         self.rows.remove_under(&mut self.used, name, most)
     }
+}
+
+/// Caches a Data as `Store::put` says. `next` is the serial number for the next Data with a new full
+/// name. Only if this number is `u64::MAX`, a Data with a new full name empties the store, and the
+/// serial numbers start again at 0.
+fn put_data(
+    alloc: Global,
+    rows: &mut Rows,
+    used: &mut LruCache<u64, u32>,
+    next: &mut u64,
+    packet: &Data<'_>,
+    arrival: u64,
+) -> bool
+    requires { IsHeld rows.old used.old used.old.cap next.old }
+    ensures held { IsHeld rows.new used.new used.old.cap next.new }
+    ensures ok { IsTrue result → let c = cached_at packet.now arrival in
+        cached_in rows.new used.new.entries ≡ take used.old.cap
+        (c ∷ without (full_name_of c) (cached_in rows.old used.old.entries)) }
+    ensures refused { result ≡ false
+        → ((rows.new ≡ rows.old) × (used.new ≡ used.old) × (next.new ≡ next.old))
+        ⊎ ((next.old ≡ 2 ^ 64 - 1) × (rows.new ≡ [])
+        × (used.new ≡ lru_cache [] used.old.cap) × (next.new ≡ 0)) }
+    ensures same { (c : CachedData) → Contains (cached_in rows.old used.old.entries) c
+        → full_name_of c ≡ full_name_of (cached_at packet.now arrival)
+        → c.octets ≡ packet.now.whole.now → IsTrue result }
+    ensures known { (c : CachedData) → Contains (cached_in rows.old used.old.entries) c
+        → full_name_of c ≡ full_name_of (cached_at packet.now arrival)
+        → next.new ≡ next.old }
+    ensures new { IsTrue result
+        → All (λ c. full_name_of c ≢ full_name_of (cached_at packet.now arrival))
+        (cached_in rows.old used.old.entries) → next.new ≡ next.old + 1 }
+{
+    let at = rows.place_for(Sought::Full(packet.name, packet.whole));
+    if rows.is_full(at, packet.name, packet.whole) {
+        return put_same(rows, used, at, packet, arrival);
+    }
+    let is_last = *next == u64::MAX;
+    if is_last {
+        rows.clear();
+        used.clear();
+        *next = 0;
+        return false;
+    }
+    let Ok(entry) = Entry::new(alloc, packet, arrival) else {
+        return false;
+    };
+    let row = Row {
+        entry,
+        serial: *next,
+    };
+    if !put_new(rows, used, at, row) {
+        return false;
+    }
+    *next += 1;
+    true
 }
 
 /// Sets the moment of arrival of the cached Data at position `at` to `arrival`. This Data must have
