@@ -1,5 +1,5 @@
-//! Link packets, the octets that signatures cover, keys of Interests, and writers. What is read as a
-//! packet is in `crates/ndn_tool/transcripts/reading.txt`.
+//! Link packets, the octets that signatures cover, keys of Interests, and writers. What is read as
+//! a packet is in `crates/ndn_tool/transcripts/reading.txt`.
 //!
 //! In the rows, `0703080141` is the Name /A, `0a0401020304` is a Nonce, `16031b0100 1700` is a
 //! SignatureInfo and an empty SignatureValue, and `050b..` is the Interest with that Name and

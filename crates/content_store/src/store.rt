@@ -219,9 +219,9 @@ impl Store {
     }
 }
 
-/// Caches a Data as `Store::put` says. `next` is the serial number for the next Data with a new full
-/// name. Only if this number is `u64::MAX`, a Data with a new full name empties the store, and the
-/// serial numbers start again at 0.
+/// Caches a Data as `Store::put` says. `next` is the serial number for the next Data with a new
+/// full name. Only if this number is `u64::MAX`, a Data with a new full name empties the store, and
+/// the serial numbers start again at 0.
 fn put_data(
     alloc: Global,
     rows: &mut Rows,

@@ -1,5 +1,5 @@
-//! Tests of parts of the program `ndn_node`: options, lines of the log, the turns of a node, the order
-//! of the first events, a reader that fails, and a journal in memory.
+//! Tests of parts of the program `ndn_node`: options, lines of the log, the turns of a node, the
+//! order of the first events, a reader that fails, and a journal in memory.
 #![tactic(auto)]
 
 #[cfg(test)]

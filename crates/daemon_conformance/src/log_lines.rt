@@ -23,7 +23,8 @@ const DATA: &str = "06150703080161160a1b01041c05070308016b1702abcd";
 const BROKEN: &str =
     "0501ffffffffffffffffffffffffffffffffffffffffffffffffffffffffffffffffffffffffffff";
 
-/// Two rules. The id of the first contains letters that are not ASCII, and the second is unverified.
+/// Two rules. The id of the first contains letters that are not ASCII, and the second is
+/// unverified.
 const RULES: &str = "rule
 {
   id sonde-\u{e9}t\u{e9}

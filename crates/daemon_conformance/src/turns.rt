@@ -1,5 +1,5 @@
-//! Tests of the turns of a node at ports in memory: what is printed, what is journalled, and what the
-//! ports did.
+//! Tests of the turns of a node at ports in memory: what is printed, what is journalled, and what
+//! the ports did.
 ghost use Rattle.std.specs.Prelude.{None};
 
 use crate::restarts::MemoryJournal;
@@ -147,8 +147,8 @@ fn journals(alloc: Global, before: &str, after: &str) -> Option<bool> {
     Some(ran.done.is_ok() && journal.octets.as_slice() == after.as_bytes())
 }
 
-/// A new journal begins with the present rules. In a restart, rules that are the last of the journal
-/// are not written again, a face that is no peer's closes, and a cut line is taken off.
+/// A new journal begins with the present rules. In a restart, rules that are the last of the
+/// journal are not written again, a face that is no peer's closes, and a cut line is taken off.
 #[test]
 fn turns_with_a_journal(rt: HostRuntime) {
     let first = "rules 0 - -\nup 1 local 1000\n";

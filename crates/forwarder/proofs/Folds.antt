@@ -1,5 +1,5 @@
--- Let a valid run start from a policy with the time 0, and let no key book have two keys of the same
--- name. Then routes, strategies and the repository after the run are the fold of the run.
+-- Let a valid run start from a policy with the time 0, and let no key book have two keys of the
+-- same name. Then routes, strategies and the repository after the run are the fold of the run.
 use Rattle.std.proofs.Common.{◌≡◌, ℕ, Bool, true, false, cond, List, [], refl, sym, ap, subst, ◌∙◌, Result, Ok, Err, inl, inr}
 use Rattle.std.specs.Prelude.{Option, Some, None, max, nat_le, not, if◌then◌else◌}
 use Rattle.std.specs.FinMap as map

@@ -1,5 +1,5 @@
--- Let a valid run start from a new node, and let no key book have two keys of the same name. Then the
--- headline is true of the run.
+-- Let a valid run start from a new node, and let no key book have two keys of the same name. Then
+-- the headline is true of the run.
 use Rattle.std.proofs.Common.{◌≡◌, ℕ, true, List, length, drop, refl, subst, Result, Ok, Err, inl, inr}
 use Rattle.std.specs.Prelude.{◌⊎◌, All, Contains}
 use Rattle.std.proofs.lemmas.List.Elements.{All-cons, All-head, All-tail}

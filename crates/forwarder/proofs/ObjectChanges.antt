@@ -36,8 +36,8 @@ use Rattle.forwarder.proofs.Stored.{commanded, record_stored, same_name, tables_
 
 -- ---- a property of the repository after an event
 
--- `P` is true after an event if it is true once time has advanced, after each allowed command to the
--- repository, and after each allowed Data
+-- `P` is true after an event if it is true once time has advanced, after each allowed command to
+-- the repository, and after each allowed Data
 module _ (was : Policy) (event : PlainEvent) (P : Held → Type 0) where
   abbrev q : Policy
   q = at_moment was (moment event)

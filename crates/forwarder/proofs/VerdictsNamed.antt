@@ -1,5 +1,5 @@
--- A valid answer to a packet that rules decide follows from what the first matching rule decides. Any
--- other event is passed or dropped.
+-- A valid answer to a packet that rules decide follows from what the first matching rule decides.
+-- Any other event is passed or dropped.
 use Rattle.std.proofs.Common.{◌≡◌, ℕ, Bool, true, false, List, [], ◌∷◌, refl, sym, subst, Result, Ok, Err, inl, inr}
 use Rattle.std.specs.Prelude.{◌⊎◌, Option, Some, None, nat_le, length, not, ◌==◌, ◌&&◌, if◌then◌else◌}
 use Rattle.ndn_packets.specs.FrameReading.{frame_at, token_at}

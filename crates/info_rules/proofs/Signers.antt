@@ -37,7 +37,8 @@ key_named keys test signed Missing is h = no_reason reasons.KeyLocator h
 key_named keys test signed Digest is h = no_reason reasons.KeyLocator h
 key_named keys test signed Other is h = no_reason reasons.KeyLocator h
 
--- a packet that passes the checker has a known signer, or it is a Data and the checker is unverified
+-- a packet that passes the checker has a known signer, or it is a Data and the checker is
+-- unverified
 signer_of : (keys : List NamedKey) (checker : Checker) (signed : PlainSigned) → Checks keys checker signed None → NamesSigner keys signed.signature ⊎ ((signed.kind ≡ kinds.Data) × (is_unverified checker ≡ true))
 signer_of keys checkers.Sha256 signed h = inl (inl (passed reasons.SigType h).0)
 signer_of keys (checkers.HmacSha256 test) signed h =

@@ -85,8 +85,8 @@ abbrev pub checker_made : ℕ → (CheckerType × Option SignatureType) × Optio
     → Found Checker
 checker_made line read = checker_typed line read.0.0 read.0.1 read.1
 
--- The fault `BadValue` at the checker's `type`, if the checker is unverified, and either its rule is
--- for Interests (`true`), or its block has a signature type or a key locator.
+-- The fault `BadValue` at the checker's `type`, if the checker is unverified, and either its rule
+-- is for Interests (`true`), or its block has a signature type or a key locator.
 unfoldable pub unverified_fault : Bool → List Block → Option RulesFault
 unverified_fault for_interests keys =
     if says (codes "type") (codes "unverified") keys

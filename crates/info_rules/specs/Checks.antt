@@ -47,8 +47,8 @@ ChecksLocator keys test Other signed given = given ≡ Some reasons.KeyLocator
 -- `given` is the checker's result for the packet. Signature type 0 is DigestSha256 and type 4 is
 -- HmacWithSha256 (NDN Packet Format 0.3, "Signature"). If the packet's signature type is not the
 -- checker's type, `given` is the reason `SigType`. The checker `Unsupported` denies every packet
--- with the reason `SigType`. The checker `Unverified` passes every Data, whatever its signature, and
--- denies every Interest with the reason `SigType`.
+-- with the reason `SigType`. The checker `Unverified` passes every Data, whatever its signature,
+-- and denies every Interest with the reason `SigType`.
 abbrev pub Checks : List NamedKey → Checker → PlainSigned → Option Reason → Type 0
 Checks keys checkers.Sha256 signed given =
     Unless (signed.signature.info.kind ≡ 0) reasons.SigType given

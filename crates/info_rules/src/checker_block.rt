@@ -68,8 +68,8 @@ fn has_locator(keys: Keys<'_>, checker_type: FoundType, signature: FoundSignatur
         || keys.has("key-locator")
 }
 
-/// Returns the fault `BadValue` at the checker's `type`, if the checker is unverified, and either its
-/// rule is for Interests, or its block has a signature type or a key locator.
+/// Returns the fault `BadValue` at the checker's `type`, if the checker is unverified, and either
+/// its rule is for Interests, or its block has a signature type or a key locator.
 #[tactic(auto, unfolding(crate::specs::CheckerBlock::unverified_fault))]
 fn unverified_fault(for_interests: bool, keys: Keys<'_>) -> Option<RulesFault>
     ensures { result ≡ unverified_fault for_interests (keys_of keys.entry) }

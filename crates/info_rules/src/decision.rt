@@ -207,8 +207,8 @@ pub fn no_packet_is_undecided()
 
 /// Law: an allowed packet has a signature of type DigestSha256, which anybody can compute, or of
 /// type HmacWithSha256. For HmacWithSha256, the KeyLocator has the name of a key of the key book.
-/// An allowed Interest also has a SignatureTime. Only a Data may have another signature, and only if
-/// the rule that allows it has an unverified checker.
+/// An allowed Interest also has a SignatureTime. Only a Data may have another signature, and only
+/// if the rule that allows it has an unverified checker.
 pub fn allowed_packets_name_their_signer()
     ensures interest { (rules : List PlainRule) (keys : List NamedKey) (whole : List ℕ)
         (i : PlainInterest) (rule : RuleNo)

@@ -23,8 +23,8 @@ pub enum Packet<'a> {
     Data(&'a Data<'a>),
 }
 
-/// A signed packet as the checkers see it: its kind, its name, its signature and the octets that the
-/// signature covers.
+/// A signed packet as the checkers see it: its kind, its name, its signature and the octets that
+/// the signature covers.
 #[derive(Clone, Copy)]
 pub struct Signed<'a> {
     pub kind: Kind,

@@ -15,8 +15,8 @@ abbrev pub bare : {V : Type 0} → Hint → Option ℕ → Node V
 bare hint parent = record { parent = parent; hint = hint; children = empty; value = None }
 
 module _ {V : Type 0} where
-  -- A new node k is added as the child of node `at` for the component `c`. The new node has the hint
-  -- for `c`, no value and no children. No node other than k and `at` changes.
+  -- A new node k is added as the child of node `at` for the component `c`. The new node has the
+  -- hint for `c`, no value and no children. No node other than k and `at` changes.
   pub record Joins (k at : ℕ) (c : Field) (h h' : Heap V) : Type 0 where
     pub node : Node V
     pub there : h at ≡ Some node

@@ -18,8 +18,8 @@ use std::rt::Files;
 use std::time::{Clock, Duration, Instant, SystemTime};
 use std::{env, io};
 
-/// The greatest length of the payload of a UDP datagram, in octets. Over IPv4 the greatest length is
-/// less by 20.
+/// The greatest length of the payload of a UDP datagram, in octets. Over IPv4 the greatest length
+/// is less by 20.
 const MAX_DATAGRAM: usize = 65_527;
 
 /// The path of the system's random source.
@@ -233,8 +233,8 @@ fn next_answer<R: Clock + AllocGlobal + Eprint + Print>(
     Err(fault_of_silence(exchange, false))
 }
 
-/// Returns a socket from port `from` to `to`. If `from` is not given, the system chooses a port. The
-/// socket has the address of `source_of`.
+/// Returns a socket from port `from` to `to`. If `from` is not given, the system chooses a port.
+/// The socket has the address of `source_of`.
 ///
 /// # Errors
 ///

@@ -6,10 +6,10 @@ ghost use Rattle.ndn_client.specs.Source.{IsSourceIp, IsSourceV4, IsSourceV6};
 
 use std::net::{IpAddr, Ipv4Addr, Ipv6Addr, SocketAddr};
 
-/// Returns the address and the port from which packets to `to` are sent. If `from` is not given, the
-/// port is 0, which stands for a port that the system chooses. The address has the family of `to`.
-/// It is a loopback address if `to` is one, and otherwise the unspecified address, which stands for
-/// any address of this machine.
+/// Returns the address and the port from which packets to `to` are sent. If `from` is not given,
+/// the port is 0, which stands for a port that the system chooses. The address has the family of
+/// `to`. It is a loopback address if `to` is one, and otherwise the unspecified address, which
+/// stands for any address of this machine.
 pub fn source_of(from: Option<u16>, to: &SocketAddr) -> SocketAddr
     ensures ip { IsSourceIp (socket_ip to.now) (socket_ip result) }
     ensures port { socket_port result ≡ unwrap_or from 0 }

@@ -33,8 +33,8 @@ SaysCount old new moment words count left =
     ((0 < count) × IsLogged old new moment words × (left ≡ 0)) ⊎ ((new ≡ old) × (left ≡ count))
 
 -- The face of an event whose line is limited, or None if its line is not limited. The line of a
--- packet that was denied or dropped, or of a face that could not open, is limited, unless all events
--- are shown.
+-- packet that was denied or dropped, or of a face that could not open, is limited, unless all
+-- events are shown.
 abbrev pub limited_event : Bool → Came → Result Verdict Memory → Option ℕ
 limited_event true came outcome = None
 limited_event false came outcome = refused_on came outcome

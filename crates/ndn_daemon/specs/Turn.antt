@@ -53,9 +53,9 @@ TakesTurns has old new turns steps held holds =
 -- What happened before the fault `why`. `Unreceived`: the text of the earlier events was written,
 -- and then the call for the next arrival failed. `Write`: a prefix of the text of the events was
 -- written. `Memory`: there was no memory for the text of the last event, and the text of the
--- earlier events was written. `Journal`: the last event could not be journalled, and a prefix of the
--- text of the earlier events was written. The octets of the writer are `held` before and `holds`
--- afterwards. If they are not known (None), nothing is stated about what was written.
+-- earlier events was written. `Journal`: the last event could not be journalled, and a prefix of
+-- the text of the earlier events was written. The octets of the writer are `held` before and
+-- `holds` afterwards. If they are not known (None), nothing is stated about what was written.
 abbrev pub StopsTurns : Bool → NodeState → NodeState → ℕ → List PortStep → Option (List ℕ)
     → Option (List ℕ) → Fault → Type 0
 StopsTurns has old new turns steps held holds Unreceived =

@@ -7,8 +7,8 @@ use Rattle.node_ports.specs.Step.{PortStep, Got, Ended, FailedNext}
 use Rattle.node_ports.specs.declared.ports.TheConstants.{FRAME_ROOM}
 
 -- What is given when `came` has arrived. If the source made nothing, that is the arrival itself.
--- Otherwise it is the new rules and keys of the source, at the time of the arrival, which is kept for
--- the next turn, a packet with at most its first 9,001 octets.
+-- Otherwise it is the new rules and keys of the source, at the time of the arrival, which is kept
+-- for the next turn, a packet with at most its first 9,001 octets.
 abbrev pub IsRenewed : {S : Type 0} (renews : S → List RenewalValue → S → Type 0) → S → PlainEvent
     → PlainEvent → S → Option PlainEvent → Type 0
 IsRenewed renews s came given t holds =
@@ -19,8 +19,8 @@ IsRenewed renews s came given t holds =
 
 -- One step. An event may be kept for the next turn: `held` before the step, and `holds` after it.
 -- An event that is kept arrives next, and the underlying ports do nothing. If none is kept, an
--- arrival is what is given for the arrival of the underlying ports (`IsRenewed`). Every other step is
--- exactly the step of the underlying ports.
+-- arrival is what is given for the arrival of the underlying ports (`IsRenewed`). Every other step
+-- is exactly the step of the underlying ports.
 abbrev pub DoesWatched : {P S : Type 0} (does : P → List PortStep → P → Type 0)
     (renews : S → List RenewalValue → S → Type 0) → P → S → Option PlainEvent → PortStep → P → S
     → Option PlainEvent → Type 0

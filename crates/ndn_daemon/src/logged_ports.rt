@@ -134,8 +134,8 @@ impl<P: Ports + HasEndpoints + Drop, S: LogSink> LoggedPorts<P, S> {
         }
     }
 
-    /// If lines of the log are buffered, returns the arrival that is available soon. If none is, the
-    /// lines are written.
+    /// If lines of the log are buffered, returns the arrival that is available soon. If none is,
+    /// the lines are written.
     fn next_or_write_out(&mut self, buffer: &mut [u8]) -> Option<Arrival>
         ensures fits { IfSome result (LiesWithin (length buffer.new)) }
         ensures came { IfSome result (λ arrival. P.does self.old.ports

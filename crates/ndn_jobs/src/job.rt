@@ -460,9 +460,9 @@ impl Ports {
     ghost use Rattle.ndn_jobs.specs.Value.{Reads};
     ghost use Rattle.ndn_jobs.specs.Options.{rows_in, value_at, IsPorts};
 
-    /// Returns the ports that the options spell. The option with the id `id` spells the destination.
-    /// The option `from` spells the source port. The option `from` is refused if no destination is
-    /// given.
+    /// Returns the ports that the options spell. The option with the id `id` spells the
+    /// destination. The option `from` spells the source port. The option `from` is refused if no
+    /// destination is given.
     fn read(options: &ArgMatches<'_>, id: &'static str) -> Result<Ports, ToolFault>
         ensures { Reads (IsPorts (value_at (rows_in options.now) id.now)
             (value_at (rows_in options.now) (codes "from"))) result }
@@ -530,8 +530,9 @@ impl AskJob {
     }
 
     /// Returns the job that the options of the subcommand `peek` describe: the Interest, what is
-    /// printed of the answer, the ports, the timeout, the retries, the key file, and whether a wrong
-    /// signature matters. If no Nonce is given, the Nonce is computed from the time and `seed`.
+    /// printed of the answer, the ports, the timeout, the retries, the key file, and whether a
+    /// wrong signature matters. If no Nonce is given, the Nonce is computed from the time and
+    /// `seed`.
     pub fn read_peek(
         alloc: Global,
         options: &ArgMatches<'_>,
@@ -657,7 +658,8 @@ impl SendJob {
     ghost use Rattle.ndn_jobs.specs.Value.{ReadsInMemory};
     ghost use Rattle.ndn_jobs.specs.Options.{rows_in, IsSendJob};
 
-    /// Returns the packet, the ports and the timeout that the options of the subcommand `send` give.
+    /// Returns the packet, the ports and the timeout that the options of the subcommand `send`
+    /// give.
     pub fn read(alloc: Global, options: &ArgMatches<'_>) -> Result<SendJob, ToolFault>
         ensures { ReadsInMemory (IsSendJob (rows_in options.now)) result }
     {

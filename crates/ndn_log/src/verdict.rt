@@ -94,8 +94,8 @@ fn put_verdict(
     }
 }
 
-/// Returns the words after the rule that allows a Data: empty words, unless the rule does not verify
-/// signatures.
+/// Returns the words after the rule that allows a Data: empty words, unless the rule does not
+/// verify signatures.
 fn unverified_words(rules: &Rules, rule: RuleNo) -> &'static str
     ensures { result.now ≡ unverified_words rules.now rule.0 }
 {

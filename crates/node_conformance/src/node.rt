@@ -1,5 +1,5 @@
-//! Tests of scripts that are cut or fail, of the methods of a node, and of the ports and the journal
-//! of a node. `crates/scenarios` tests the node's answers to events.
+//! Tests of scripts that are cut or fail, of the methods of a node, and of the ports and the
+//! journal of a node. `crates/scenarios` tests the node's answers to events.
 
 mod endpoints;
 mod full_pending;

@@ -13,11 +13,11 @@ plain_arrival (owned.FaceDown face now) = FaceDown face now
 plain_arrival (owned.Tick now) = Tick now
 plain_arrival (owned.NewRules renewal now) = NewRules renewal.rules renewal.keys now
 
--- The events that have not yet arrived, the packets that were accepted, the number of calls of `next`
--- that succeeded (at most the greatest u64), for each accepted packet this number when the packet was
--- sent, and the number of failed calls (at most the greatest u64). So all of the trace is known up to
--- these limits, except the octets that the buffers had room for, and except where among the other
--- steps the failed calls were and what they were.
+-- The events that have not yet arrived, the packets that were accepted, the number of calls of
+-- `next` that succeeded (at most the greatest u64), for each accepted packet this number when the
+-- packet was sent, and the number of failed calls (at most the greatest u64). So all of the trace
+-- is known up to these limits, except the octets that the buffers had room for, and except where
+-- among the other steps the failed calls were and what they were.
 pub record MemoryTrace : Type 0 where
   pub events : List PlainEvent
   pub sent : List Send

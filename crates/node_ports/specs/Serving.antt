@@ -84,8 +84,8 @@ IsFront old event front =
 
 -- An event arrived and was answered, but it could not be journalled: nothing, or a prefix of the
 -- event's line, which may be the whole line, was appended to the journal. None of the event's
--- packets was sent. Each run of the node is extended by the event, and the journal of the run by the
--- event's line.
+-- packets was sent. Each run of the node is extended by the event, and the journal of the run by
+-- the event's line.
 pub record FailsToWrite (has : Bool) (old new : NodeState) (steps : List PortStep) : Type 0 where
   pub event : PlainEvent
   pub answer : Answer
@@ -98,10 +98,9 @@ pub record FailsToWrite (has : Bool) (old new : NodeState) (steps : List PortSte
       → GrowsJournal old (event ∷ []) (Answered answer ∷ []) line
   pub are_steps : steps ≡ Got FRAME_ROOM event ∷ FailedWrite front ∷ []
 
--- The meaning of each result of a turn, which was taken in these steps. `sends` are the sends in the
--- outbox after the turn. `Done`:
--- an event was answered. `Refused`: memory ran out for an event. `Unwritten`: an event could not be
--- journalled. `End`: no event came.
+-- The meaning of each result of a turn, which was taken in these steps. `sends` are the sends in
+-- the outbox after the turn. `Done`: an event was answered. `Refused`: memory ran out for an event.
+-- `Unwritten`: an event could not be journalled. `End`: no event came.
 abbrev pub IsTurn : Bool → NodeState → NodeState → List Send → Turn → List PortStep → Type 0
 IsTurn has old new sends (turn.Done verdict failed) steps =
     Handles has old new (Answered (record { verdict = verdict_of verdict; sends = sends })) failed

@@ -123,8 +123,8 @@ impl MemoryPorts {
         &self.taken
     }
 
-    /// Returns, for each packet that was sent, how many calls of `next` had succeeded before, at most
-    /// the greatest u64.
+    /// Returns, for each packet that was sent, how many calls of `next` had succeeded before, at
+    /// most the greatest u64.
     pub fn places(&self) -> &[u64]
         ensures { result.now ≡ self.now.trace.places }
     {

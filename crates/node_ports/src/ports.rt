@@ -75,8 +75,8 @@ pub enum PortFault {
 /// each failed call increases the count, unless the count is the greatest u64.
 pub trait Ports {
     // `does before steps after`: from the state `before`, the port did these steps, in this order,
-    // and is then in the state `after`. For ports in memory, the steps are known, except where among
-    // them the failed calls were. For sockets, only the number of failed calls is known.
+    // and is then in the state `after`. For ports in memory, the steps are known, except where
+    // among them the failed calls were. For sockets, only the number of failed calls is known.
     ghost does: { Self → List PortStep → Self → Type 0 };
 
     // Whether the port has a journal.

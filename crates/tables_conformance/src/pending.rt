@@ -1,5 +1,6 @@
 //! Tests of the limits of tables of pending Interests, of refused memory, and of random calls.
-//! These tables have records only of faces below 64. Therefore no table exceeds its limit of 64 faces.
+//! These tables have records only of faces below 64. Therefore no table exceeds its limit of 64
+//! faces.
 
 mod random_sequences;
 mod refused_memory;

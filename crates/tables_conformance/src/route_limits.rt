@@ -133,8 +133,8 @@ fn registers_33(routes: &mut RouteTable) -> bool {
     true
 }
 
-/// Returns whether the lookup of a name makes at most 64 searches, and finds 33 next hops, the first
-/// on face 32 and the last on face 0.
+/// Returns whether the lookup of a name makes at most 64 searches, and finds 33 next hops, the
+/// first on face 32 and the last on face 0.
 fn finds_33(routes: &RouteTable, name: Name<'_>) -> bool {
     let mut steps = 0;
     let hops = routes.read().longest_counted(name, &mut steps);

@@ -1,7 +1,7 @@
-//! Tests of random calls on a repository. The answers are compared with the answers of plain arrays,
-//! which are searched from end to end. An independent program made the packets and the names of the
-//! commands. The names are `/A`, `/A/B`, `/A/C`, `/B` and `/AA`, in canonical order. The name
-//! numbered 0 is a prefix of the next two.
+//! Tests of random calls on a repository. The answers are compared with the answers of plain
+//! arrays, which are searched from end to end. An independent program made the packets and the
+//! names of the commands. The names are `/A`, `/A/B`, `/A/C`, `/B` and `/AA`, in canonical order.
+//! The name numbered 0 is a prefix of the next two.
 
 use super::{data_in, empty_repo, status_and_count};
 use ndn_names::Name;

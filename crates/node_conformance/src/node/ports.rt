@@ -7,7 +7,8 @@ use node_ports::{
 };
 use std::alloc::Global;
 
-/// Two faces open, an Interest without a route comes, and a Data with a wrong signature comes twice.
+/// Two faces open, an Interest without a route comes, and a Data with a wrong signature comes
+/// twice.
 pub const FIRST_PATH: &str = "up 1 local 0
 up 2 far 0
 in 1 1000 050b07030801410a0401020304

@@ -1,5 +1,6 @@
 //! Tests of the number of rules in a text, and of the messages of faults and reasons. Which texts
-//! are rule files, and which faults other texts have, is in `crates/ndn_node/transcripts/rules.txt`.
+//! are rule files, and which faults other texts have, is in
+//! `crates/ndn_node/transcripts/rules.txt`.
 
 use crate::rows::check_rows;
 use info_rules::{InfoTree, Reason, RuleNo, Rules, RulesFault, RulesFaultKind};
