@@ -1,0 +1,12 @@
+pub mod BigEndian
+pub mod Bits
+pub mod Clearing
+pub mod Der
+pub mod Differences
+pub mod Elements
+pub mod Modulo
+pub mod Multiples
+pub mod OneForm
+pub mod Powers
+pub mod Products
+pub mod Residues

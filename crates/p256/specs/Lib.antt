@@ -1,0 +1,11 @@
+pub mod Curve
+pub mod Der
+pub mod Field
+pub mod Group
+pub mod Integer
+pub mod Key
+pub mod Octets
+pub mod Order
+pub mod Prime
+pub mod Scalars
+pub mod Signature
