@@ -1,0 +1,11 @@
+pub mod Numbers
+pub mod Named
+pub mod Places
+pub mod Accepting
+pub mod Cutting
+pub mod Pieces
+pub mod Runs
+pub mod Assembled
+pub mod Complete
+pub mod Back
+pub mod Apart
