@@ -2,6 +2,7 @@ pub mod Numbers
 pub mod Named
 pub mod Places
 pub mod Accepting
+pub mod Longest
 pub mod Cutting
 pub mod Pieces
 pub mod Runs
@@ -9,3 +10,4 @@ pub mod Assembled
 pub mod Complete
 pub mod Back
 pub mod Apart
+pub mod Window

@@ -1,5 +1,5 @@
 -- The Data that the pieces of a file are written as (NDN Packet Format 0.3, "Data Packet").
-use Rattle.std.specs.Prelude.{◌≢◌, ℕ, ◌<◌, ◌⊎◌, List, [], Some, Option, unwrap_or, length, min, ◌*◌, ◌-◌, ⊤}
+use Rattle.std.specs.Prelude.{◌≢◌, ℕ, ◌<◌, ◌⊎◌, List, [], Some, Option, unwrap_or, length, replicate, min, ◌≤◌, ◌*◌, ◌-◌, ⊤}
 use Rattle.ndn_tlv.specs.Element.{Field}
 use Rattle.std.specs.Borrow.{Bor}
 use Rattle.ndn_names.specs.declared.name.Name.{Name}
@@ -81,13 +81,29 @@ writer_for p name piece = record {
   sign = p.sign;
 }
 
+-- the name of the segment has at most 64 components, and the Data at most 8,800 octets
+abbrev pub IsShort : Plan → ℕ → List ℕ → Type 0
+IsShort p number piece =
+    (length p.name ≤ 62) × (length (segment_text p number piece) ≤ 8800)
+
+-- Each segment is short enough if the longest one is: the last number with the longest piece. The
+-- octets of the piece do not matter.
+abbrev pub Fits : Plan → Type 0
+Fits p = IsShort p (last_of p) (replicate (piece_len p 0) 0)
+
+-- why a segment with any number and any piece is not written
+abbrev pub IsNotPut : Plan → ℕ → List ℕ → CutFault → Type 0
+IsNotPut p number piece fault.TooLong = ¬ IsShort p number piece
+IsNotPut p number piece fault.NoSuchPiece = ⊥
+IsNotPut p number piece fault.EmptyPieces = ⊥
+IsNotPut p number piece fault.Memory = ⊤
+
 -- why a segment is not written
 abbrev pub IsNotWritten : Plan → ℕ → List ℕ → CutFault → Type 0
 -- the file has no piece with this number and this length
 IsNotWritten p number piece fault.NoSuchPiece =
     (last_of p < number) ⊎ (length piece ≢ piece_len p number)
--- the name of the segment has more than 64 components, or the Data has more than 8,800 octets
-IsNotWritten p number piece fault.TooLong =
-    (62 < length p.name) ⊎ (8800 < length (segment_text p number piece))
+-- the segment is too long, and so the longest one is
+IsNotWritten p number piece fault.TooLong = (¬ IsShort p number piece) × (¬ Fits p)
 IsNotWritten p number piece fault.EmptyPieces = ⊥
 IsNotWritten p number piece fault.Memory = ⊤

@@ -3,8 +3,9 @@
 ghost use Rattle.std.specs.Prelude.{◌≤◌};
 
 use crate::names::{segment_name, version_name};
-use ndn_names::{Name, NameBuf, NameFault};
+use ndn_names::{MAX_COMPONENTS, Name, NameFault};
 use ndn_packets::{DataWriter, Sign, WriteFault};
+use ndn_tlv::Memory;
 use std::alloc::Global;
 use std::io;
 use std::io::Read;
@@ -73,9 +74,9 @@ pub struct Cutter<'a> {
 }
 
 impl<'a> Cutter<'a> {
-    ghost use Rattle.std.specs.Prelude.{◌≡◌, ◌≢◌, ◌≤◌, ◌<◌, ◌++◌, ◌-◌, ◌^◌, MatchResult, OnOk, OnErr, IfErr, IfSome, length, min, take};
+    ghost use Rattle.std.specs.Prelude.{◌≡◌, ◌≢◌, ◌≤◌, ◌<◌, ◌++◌, ◌-◌, ◌^◌, ◌↔◌, MatchResult, OnOk, OnErr, IfOk, IfErr, IfSome, IsTrue, length, min, take};
     ghost use Rattle.ndn_names.specs.View.{components};
-    ghost use Rattle.ndn_segments.specs.Cut.{plan_of, last_of, name_at, piece_len, segment_text, writer_for, IsNotWritten, IsSegment};
+    ghost use Rattle.ndn_segments.specs.Cut.{plan_of, last_of, name_at, piece_len, segment_text, writer_for, IsNotPut, IsNotWritten, IsSegment, IsShort, Fits};
 
     /// Returns how a file of `len` octets is cut into pieces of `size` octets; the last piece may be
     /// shorter. `name` is the name of the file without the version. Each Data is signed as `sign`
@@ -178,6 +179,42 @@ impl<'a> Cutter<'a> {
         if self.last() < number || piece.len() != self.piece_len(number) {
             return Err(CutFault::NoSuchPiece);
         }
+        self.put(alloc, number, piece, out)
+    }
+
+    /// Returns whether each segment fits in a packet of 8,800 octets, and its name in 64 components.
+    /// Then `write` never returns `TooLong`.
+    pub fn fits(&self, alloc: Global) -> Result<bool, Memory>
+        ensures { IfOk result (λ fits. IsTrue fits ↔ Fits (plan_of self.now)) }
+    {
+        let piece = vec![in alloc; 0; self.piece_len(0)]?;
+        let mut out = Vec::new(alloc);
+        match self.put(alloc, self.last(), &piece, &mut out) {
+            Ok(()) => Ok(true),
+            Err(CutFault::TooLong) => Ok(false),
+            Err(_) => Err(Memory),
+        }
+    }
+
+    /// Appends the Data of a segment with any number and any piece. If the segment cannot be written,
+    /// nothing is appended.
+    fn put(
+        &self,
+        alloc: Global,
+        number: u64,
+        piece: &[u8],
+        out: &mut Vec<u8>,
+    ) -> Result<(), CutFault>
+        ensures ok { OnOk result
+            (out.new.items ≡ out.old.items ++ segment_text (plan_of self.now) number piece.now) }
+        ensures err { OnErr result (out.new.items ≡ out.old.items) }
+        ensures fault { IfErr result (IsNotPut (plan_of self.now) number piece.now) }
+        ensures segment { OnOk result (IsSegment (plan_of self.now) number piece.now) }
+        ensures short { OnOk result (IsShort (plan_of self.now) number piece.now) }
+    {
+        if MAX_COMPONENTS < self.name.len() + 2 {
+            return Err(CutFault::TooLong);
+        }
         let stem = version_name(alloc, self.name, self.version)?;
         let name = segment_name(alloc, stem.view(), number)?;
         self.data(name.view(), piece).write(out)?;
@@ -188,7 +225,8 @@ impl<'a> Cutter<'a> {
     fn data<'b>(&self, name: Name<'b>, piece: &'b [u8]) -> DataWriter<'b>
     where
         'a: 'b,
-        ensures { result ≡ writer_for (plan_of self.now) name.entry piece.entry }
+        ensures writer { result ≡ writer_for (plan_of self.now) name.entry piece.entry }
+        ensures last { last_of (plan_of self.now) < 2 ^ 64 - 1 }
     {
         DataWriter {
             name,

@@ -11,6 +11,7 @@ ghost use Rattle.ndn_segments.specs.declared.fault.SegmentFault.{SegmentFault};
 ghost use Rattle.ndn_segments.specs.Names.{version_name};
 ghost use Rattle.ndn_segments.specs.Segment.{PlainSegment, IsSegmentOf, IsNoSegment};
 ghost use Rattle.ndn_segments.specs.Cut.{Plan, piece_len, segment_text, segment_data, IsSegment};
+ghost use Rattle.ndn_segments.specs.Held.{content_at};
 ghost use Rattle.ndn_segments.specs.Assembling.{Assembly, start, answer_to, is_other, IsFinished, IsWanted};
 ghost use Rattle.ndn_segments.specs.Assembles.{Assembles, Has, AreOf, IsWritten, segment, state_after, written_after, accepted_of};
 
@@ -93,6 +94,14 @@ pub fn segments_give_the_file_in_any_order()
         → let first = start stem limit window in
         IsFinished (state_after first received)
         × (written_after first received ≡ file) }
+{}
+
+/// Law: an assembler holds contents for at most `window` segments, each of at most `limit` octets.
+pub fn only_a_window_is_held()
+    ensures { (stem : List Field) (limit window : ℕ) (received : List PlainSegment) (index : ℕ)
+        (content : List ℕ)
+        → content_at (state_after (start stem limit window) received).held index ≡ Some content
+        → (index < window) × (length content ≤ limit) }
 {}
 
 /// Law: if the segment with some number has not come, the assembler is not finished. Segments of

@@ -110,28 +110,39 @@ fn segments_signed_with_hmac(rt: HostRuntime) {
     assert!(rt; is_signed(rt.alloc()));
 }
 
-/// Returns whether the first segment of a file of `len` octets in pieces of `len` octets is written,
-/// or refused because the Data has more than 8,800 octets.
-fn fits(alloc: Global, len: usize) -> bool {
-    fits_in_packet(alloc, len).unwrap_or(false)
-}
-
-fn fits_in_packet(alloc: Global, len: usize) -> Option<bool> {
-    let name = NameBuf::from_uri(alloc, "/a").ok()?;
-    let cutter = Cutter::new(name.view(), 1, len as u64, len, None, Sign::Digest).ok()?;
-    let piece = vec![in alloc; 120; len].ok()?;
+/// Returns whether each segment of a file of `len` octets in pieces of `size` octets fits in a
+/// packet. Returns `None` if `fits` and `write` say different things of the first segment with the
+/// last number.
+fn all_fit(alloc: Global, uri: &str, len: u64, size: usize) -> Option<bool> {
+    let name = NameBuf::from_uri(alloc, uri).ok()?;
+    let cutter = Cutter::new(name.view(), 1, len, size, None, Sign::Digest).ok()?;
+    let fits = cutter.fits(alloc).ok()?;
+    let piece = vec![in alloc; 120; cutter.piece_len(cutter.last())].ok()?;
     let mut out = Vec::new(alloc);
-    match cutter.write(alloc, 0, &piece, &mut out) {
-        Ok(()) => Some(true),
-        Err(CutFault::TooLong) => Some(false),
+    match cutter.write(alloc, cutter.last(), &piece, &mut out) {
+        Ok(()) => Some(fits),
+        Err(CutFault::TooLong) if !fits => Some(false),
         Err(_) => None,
     }
 }
 
 /// A packet of 8,800 octets has 4 octets before the Name, 11 of the Name, 7 of the MetaInfo, 4
-/// before the octets of the Content, 5 of the SignatureInfo and 34 of the SignatureValue.
+/// before the octets of the Content, 5 of the SignatureInfo and 34 of the SignatureValue. A number
+/// of two octets takes one octet more in the Name and one more in the MetaInfo.
 #[test]
 fn the_longest_segment(rt: HostRuntime) {
-    assert!(rt; fits(rt.alloc(), 8735));
-    assert!(rt; !fits(rt.alloc(), 8736));
+    assert!(rt; all_fit(rt.alloc(), "/a", 8735, 8735) == Some(true));
+    assert!(rt; all_fit(rt.alloc(), "/a", 8736, 8736) == Some(false));
+    assert!(rt; all_fit(rt.alloc(), "/a", 256 * 8735, 8735) == Some(true));
+    assert!(rt; all_fit(rt.alloc(), "/a", 257 * 8733, 8733) == Some(true));
+    assert!(rt; all_fit(rt.alloc(), "/a", 257 * 8734, 8734) == Some(false));
+}
+
+/// Two components follow the name of a file, and a name has at most 64.
+#[test]
+fn the_longest_name(rt: HostRuntime) {
+    let long =
+        "/a/a/a/a/a/a/a/a/a/a/a/a/a/a/a/a/a/a/a/a/a/a/a/a/a/a/a/a/a/a/a/a/a/a/a/a/a/a/a/a/a/a/a/a/a/a/a/a/a/a/a/a/a/a/a/a/a/a/a/a/a/a/a";
+    assert!(rt; all_fit(rt.alloc(), &long[2..], 1, 8000) == Some(true));
+    assert!(rt; all_fit(rt.alloc(), long, 1, 8000) == Some(false));
 }
