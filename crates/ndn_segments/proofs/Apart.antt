@@ -19,9 +19,9 @@ use Rattle.ndn_segments.proofs.Assembled.{same_segment}
 
 pub one_segment : (stem : List Field) (whole : List ℕ) (d : PlainData) (a b : PlainSegment) → IsSegmentOf stem whole d a → IsSegmentOf stem whole d b → a ≡ b
 one_segment stem whole d a b one other =
-    let component : (SEGMENT, shortest_nni a.number) ≡ (SEGMENT, shortest_nni b.number) = same_after stem d.name _ _ one.name other.name in
+    let component : (SEGMENT, shortest_nni a.number) ≡ (SEGMENT, shortest_nni b.number) = same_after stem d.name (SEGMENT, shortest_nni a.number) (SEGMENT, shortest_nni b.number) one.name other.name in
     let number : a.number ≡ b.number = shortest_apart a.number b.number one.number_fits other.number_fits (ap (λ (f : Field). f.1) component) in
-    let last : a.last ≡ b.last = shortest_apart a.last b.last (omega (arith, one.last_fits)) (omega (arith, other.last_fits)) (same_some _ _ (sym one.last ∙ other.last)) in
+    let last : a.last ≡ b.last = shortest_apart a.last b.last (omega (arith, one.last_fits)) (omega (arith, other.last_fits)) (same_some (shortest_nni a.last) (shortest_nni b.last) (sym one.last ∙ other.last)) in
     same_segment a b.number b.last b.content number last (one.content ∙ sym other.content)
 
 pub no_segment : (stem : List Field) (whole : List ℕ) (d : PlainData) (s : PlainSegment) (why : SegmentFault) → IsSegmentOf stem whole d s → IsNoSegment stem whole d why → ⊥

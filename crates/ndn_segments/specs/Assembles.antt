@@ -63,7 +63,8 @@ written_after first [] = []
 written_after first (s ∷ earlier) =
     written_after first earlier ++ octets_at (state_after first earlier) s
 
-abbrev pub if_accepted : Result Taken SegmentFault → PlainSegment → List PlainSegment → List PlainSegment
+abbrev pub if_accepted : Result Taken SegmentFault → PlainSegment → List PlainSegment
+    → List PlainSegment
 if_accepted (Ok Accepted) s earlier = s ∷ earlier
 if_accepted (Ok Repeated) s earlier = earlier
 if_accepted (Err why) s earlier = earlier

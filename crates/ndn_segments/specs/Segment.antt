@@ -19,7 +19,8 @@ plain_segment s = record { number = s.number; last = s.last; content = s.content
 
 -- The Data with the received octets `whole` is the segment `s` of the file whose name, including
 -- the version, is `stem`. A Data without a Content is a segment with an empty piece.
-pub record IsSegmentOf (stem : List Field) (whole : List ℕ) (d : PlainData) (s : PlainSegment) : Type 0 where
+pub record IsSegmentOf (stem : List Field) (whole : List ℕ) (d : PlainData)
+    (s : PlainSegment) : Type 0 where
   pub name : d.name ≡ segment_name stem s.number
   pub last : final_value whole ≡ Some (shortest_nni s.last)
   pub content : s.content ≡ unwrap_or d.content []

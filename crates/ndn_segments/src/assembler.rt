@@ -61,8 +61,9 @@ impl Assembler {
     ghost use Rattle.std.specs.List.{concat};
 
     /// Returns an assembler for the file with the name `stem`, which includes the version. Contents
-    /// of more than `limit` octets are refused. At most `window` contents are held, each of which
-    /// waits for a segment before it. Segments that come in order need no window.
+    /// of more than `limit` octets are refused. `window` is the number of segments, from the next
+    /// one to be written on, that are not refused as `BeyondWindow`. A window of 1 takes segments
+    /// only in order, and a window of 0 takes none.
     pub fn new(alloc: Global, stem: NameBuf, limit: usize, window: usize) -> Assembler
         ensures { result ≡ start stem limit window }
     {

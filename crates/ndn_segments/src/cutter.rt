@@ -74,13 +74,13 @@ pub struct Cutter<'a> {
 }
 
 impl<'a> Cutter<'a> {
-    ghost use Rattle.std.specs.Prelude.{◌≡◌, ◌≢◌, ◌≤◌, ◌<◌, ◌++◌, ◌-◌, ◌^◌, ◌↔◌, MatchResult, OnOk, OnErr, IfOk, IfErr, IfSome, IsTrue, length, min, take};
+    ghost use Rattle.std.specs.Prelude.{◌≡◌, ◌≢◌, ◌≤◌, ◌<◌, ◌++◌, ◌-◌, ◌^◌, ◌↔◌, MatchResult, OnOk, OnErr, IfOk, IfErr, IfSome, IsTrue, length, take};
     ghost use Rattle.ndn_names.specs.View.{components};
-    ghost use Rattle.ndn_segments.specs.Cut.{plan_of, last_of, name_at, piece_len, segment_text, writer_for, IsNotPut, IsNotWritten, IsSegment, IsShort, Fits};
+    ghost use Rattle.ndn_segments.specs.Cut.{plan_of, last_of, piece_len, segment_text, writer_for, IsNotPut, IsNotWritten, IsSegment, IsShort, Fits};
 
-    /// Returns how a file of `len` octets is cut into pieces of `size` octets; the last piece may be
-    /// shorter. `name` is the name of the file without the version. Each Data is signed as `sign`
-    /// says, and has `freshness` as its FreshnessPeriod, in milliseconds.
+    /// Returns how a file of `len` octets is cut into pieces of `size` octets. The last piece may
+    /// be shorter. `name` is the name of the file without the version. Each Data is signed as
+    /// `sign` says, and has `freshness` as its FreshnessPeriod, in milliseconds.
     ///
     /// Returns `EmptyPieces` if `size` is 0, which is the only error.
     pub fn new(
@@ -173,7 +173,7 @@ impl<'a> Cutter<'a> {
         ensures fault { IfErr result (IsNotWritten (plan_of self.now) number piece.now) }
         // The appended Data is read as the segment with this number and this piece.
         ensures segment { OnOk result (IsSegment (plan_of self.now) number piece.now) }
-        ensures fits { OnOk result ((number ≤ last_of (plan_of self.now))
+        ensures piece { OnOk result ((number ≤ last_of (plan_of self.now))
             × (length piece.now ≡ piece_len (plan_of self.now) number)) }
     {
         if self.last() < number || piece.len() != self.piece_len(number) {
@@ -182,8 +182,8 @@ impl<'a> Cutter<'a> {
         self.put(alloc, number, piece, out)
     }
 
-    /// Returns whether each segment fits in a packet of 8,800 octets, and its name in 64 components.
-    /// Then `write` never returns `TooLong`.
+    /// Returns whether each segment fits in a packet of 8,800 octets, and its name in 64
+    /// components. Then `write` never returns `TooLong`.
     pub fn fits(&self, alloc: Global) -> Result<bool, Memory>
         ensures { IfOk result (λ fits. IsTrue fits ↔ Fits (plan_of self.now)) }
     {
@@ -196,8 +196,8 @@ impl<'a> Cutter<'a> {
         }
     }
 
-    /// Appends the Data of a segment with any number and any piece. If the segment cannot be written,
-    /// nothing is appended.
+    /// Appends the Data of a segment with any number and any piece. If the segment cannot be
+    /// written, nothing is appended.
     fn put(
         &self,
         alloc: Global,

@@ -22,7 +22,7 @@ impl Model for Held {
 }
 
 impl Held {
-    ghost use Rattle.std.specs.Prelude.{◌≡◌, ◌+◌, ◌≤◌, ◌<◌, ◌++◌, ◌^◌, [], None, length, drop, option_map, IfOk, OnOk, OnErr, OnSome, ◌-◌, take, vec_len};
+    ghost use Rattle.std.specs.Prelude.{◌≡◌, ◌+◌, ◌-◌, ◌<◌, ◌++◌, ◌^◌, [], length, take, drop, option_map, vec_len, IfOk, OnOk, OnErr, OnSome};
     ghost use Rattle.std.specs.List.{concat};
     ghost use Rattle.ndn_segments.specs.Held.{content_at, placed, in_order};
 

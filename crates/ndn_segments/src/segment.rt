@@ -1,13 +1,10 @@
 //! Segments as they are received: the number, the number of the last segment, and the content.
 
-ghost use Rattle.std.specs.Prelude.{◌≡◌, ◌≢◌, ◌<◌, ◌^◌, ◌-◌, ◌∷◌, ◌++◌, [], ℕ, MatchResult, MatchOption, Some, option_map};
-ghost use Rattle.ndn_tlv.specs.Element.{Field};
+ghost use Rattle.std.specs.Prelude.{◌≡◌, ◌≢◌, ◌<◌, ◌^◌, ◌-◌, ℕ, MatchResult, MatchOption, Some, option_map};
 ghost use Rattle.ndn_tlv.specs.Number.{shortest_nni};
 ghost use Rattle.ndn_names.specs.View.{components};
-ghost use Rattle.ndn_names.specs.TypeName.{shortest_number};
-ghost use Rattle.ndn_packets.specs.View.{plain_data};
 ghost use Rattle.ndn_segments.specs.Names.{segment_name, final_value};
-ghost use Rattle.ndn_segments.specs.Segment.{IsSegmentOf, IsNoSegment, IsNoName, plain_segment};
+ghost use Rattle.ndn_segments.specs.Segment.{IsNoName};
 
 use crate::fault::SegmentFault;
 use ndn_names::Name;

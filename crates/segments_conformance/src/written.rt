@@ -8,8 +8,8 @@ use ndn_segments::{CutFault, Cutter};
 use std::alloc::Global;
 
 /// Each row has a URI, a version, a FreshnessPeriod (`-` for none), the length of the file, the
-/// length of a piece, the number of a segment, its piece in hexadecimal (`-` for no octets), and the
-/// Data, or the fault.
+/// length of a piece, the number of a segment, its piece in hexadecimal (`-` for no octets), and
+/// the Data, or the fault.
 ///
 /// In the first row, `0709080161360101320100` is the Name `/a/v=1/seg=0`, `14051a03320100` a
 /// MetaInfo with the FinalBlockId `seg=0`, `1500` an empty Content, `16031b0100` the SignatureInfo
