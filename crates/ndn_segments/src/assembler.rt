@@ -166,6 +166,21 @@ impl Assembler {
         Ok(())
     }
 
+    /// Returns the number of the last segment, or `None` if no segment has been accepted.
+    pub fn last(&self) -> Option<u64>
+        ensures { result ≡ self.now.last }
+    {
+        self.last
+    }
+
+    /// Returns the number of the first segment that has not been written, which is the number of
+    /// segments that have been written.
+    pub fn next(&self) -> u64
+        ensures { result ≡ self.now.next }
+    {
+        self.next
+    }
+
     /// Returns whether the last segment has been written.
     pub fn is_finished(&self) -> bool
         ensures { IsTrue result ↔ IsFinished self.now }

@@ -4,7 +4,8 @@ use ndn_names::NameBuf;
 use ndn_packets::{Frame, Sign, read_frame};
 use ndn_segments::{Assembler, Cutter, Taken, version_name};
 use std::alloc::Global;
-use std::io::Read;
+use std::io;
+use std::io::{Read, repeat};
 
 /// Returns a file of `len` octets, in which no two pieces of 8,000 octets are equal.
 fn file_of(alloc: Global, len: u32) -> Option<Vec<u8>> {
@@ -117,4 +118,34 @@ fn files_that_change_while_they_are_read(rt: HostRuntime) {
     assert!(rt; is_refused(rt.alloc(), 8000));
     assert!(rt; is_refused(rt.alloc(), 0));
     assert!(rt; !is_refused(rt.alloc(), 8002));
+}
+
+/// A reader whose reads fail.
+#[derive(Drop)]
+struct Broken;
+
+impl Read for Broken {
+    fn read(&mut self, _buf: &mut [u8]) -> io::Result<usize> {
+        Err(io::Error::from(io::ErrorKind::Other))
+    }
+}
+
+/// A reader gives 8,003 octets and then fails. Returns whether the first piece is read, and the
+/// error is reported for the second one.
+fn fails_in_the_second_piece(alloc: Global) -> bool {
+    first_piece_only(alloc).unwrap_or(false)
+}
+
+fn first_piece_only(alloc: Global) -> Option<bool> {
+    let name = NameBuf::from_uri(alloc, "/a/file").ok()?;
+    let cutter = Cutter::new(name.view(), 7, 16_000, 8000, None, Sign::Digest).ok()?;
+    let mut reader = repeat(b'x').take(8003).chain(Broken);
+    let mut piece = Vec::new(alloc);
+    cutter.read_piece(&mut reader, 0, &mut piece).ok()?;
+    Some(piece.len() == 8000 && cutter.read_piece(&mut reader, 1, &mut piece).is_err())
+}
+
+#[test]
+fn a_reader_that_fails(rt: HostRuntime) {
+    assert!(rt; fails_in_the_second_piece(rt.alloc()));
 }
