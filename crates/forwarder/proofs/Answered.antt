@@ -5,7 +5,6 @@ use Rattle.std.specs.Prelude.{Result, Ok, Err, IfOk, IsErr, IsOk, nat_lt}
 use Rattle.std.proofs.lemmas.Bool.{false≢true}
 use Rattle.std.specs.List.{list_any}
 use Rattle.std.specs.FinMap.{entries}
-use Rattle.std.proofs.lemmas.List.Elements.{All-contains_itself}
 use Rattle.sha2.specs.Sha256.{sha256}
 use Rattle.ndn_tlv.specs.Element.{Field}
 use Rattle.ndn_tlv.specs.declared.memory.Memory.{Memory}
@@ -21,6 +20,7 @@ use Rattle.repo_core.specs.Repo.{after_offer}
 use Rattle.repo_core.specs.Wants.{Wants, is_wanted, want_cmp, wants_after}
 use Rattle.repo_core.proofs.Kept.{entries-kept}
 use Rattle.repo_core.proofs.Spares.{any_of_part}
+use Rattle.content_store.proofs.Losses.{nothing_lost}
 use Rattle.forwarder.specs.declared.state.State.{State}
 use Rattle.forwarder.specs.declared.verdict.Verdict as code
 use Rattle.forwarder.specs.Event.{Send, Token}
@@ -53,7 +53,7 @@ pub unharmed : (old new : NodeState) → new.policy ≡ old.policy → new.pendi
 unharmed old new policy pending cache = record {
   policy = policy;
   pending = pending;
-  cache = subst (MayForget old.cache) (sym cache) (All-contains_itself old.cache.cached, refl);
+  cache = subst (MayForget old.cache) (sym cache) (nothing_lost old.cache.cached, refl);
 }
 
 -- advancing time does not change whether a name is out of scope

@@ -3,7 +3,7 @@
 -- then the octets are the node's own answer to an Interest from the face that the octets are sent
 -- to.
 use Rattle.std.proofs.Common.{◌≡◌, ℕ, Bool, true, false, cond, List, [], ◌∷◌, refl, sym, ap, subst, ◌∙◌, Result, Ok, Err, inl, inr}
-use Rattle.std.specs.Prelude.{◌≢◌, IfSome, Option, Some, None, Contains, IsSome, IsTrue, max}
+use Rattle.std.specs.Prelude.{◌≢◌, ◌⊎◌, IfSome, Option, Some, None, Contains, IsSome, IsTrue, max}
 use Rattle.std.specs.FinMap as map
 use Rattle.std.specs.FinMap.{entries, find, get-entries}
 use Rattle.std.specs.Ordering.{is_eq}
@@ -16,7 +16,7 @@ use Rattle.ndn_names.specs.Order.{name_cmp}
 use Rattle.ndn_packets.specs.Answers.{answers}
 use Rattle.ndn_packets.specs.FrameReading.{frame_at, token_at}
 use Rattle.ndn_packets.specs.Key.{key_of}
-use Rattle.ndn_packets.specs.Packet.{PlainData, PlainFrame, PlainInterest, AnInterest, AData, ANack, Idle}
+use Rattle.ndn_packets.specs.Packet.{PlainData, PlainFrame, AnInterest, AData, ANack, Idle}
 use Rattle.ndn_packets.specs.declared.fault.PacketFault.{PacketFault}
 use Rattle.ndn_packets.proofs.Answering.{answers_is}
 use Rattle.ndn_packets.specs.Link.{IsToken}
@@ -30,7 +30,7 @@ use Rattle.repo_core.proofs.FullNames.{as_data}
 use Rattle.repo_core.proofs.Kept.{entries-kept, get-kept}
 use Rattle.forwarder.specs.Event.{PlainEvent, Packet, FaceUp, FaceDown, Tick, NewRules, moment, Send, Token, sent_back, token_in}
 use Rattle.forwarder.specs.OpenFaces.{is_open}
-use Rattle.forwarder.specs.Verdict.{Answer, Dropped, NoSegment, Passed, dropped, passed}
+use Rattle.forwarder.specs.Verdict.{Answer}
 use Rattle.forwarder.specs.Policy.{Policy, at_moment}
 use Rattle.forwarder.specs.Request.{is_decided}
 use Rattle.forwarder.specs.Replies.{Seen}
@@ -38,12 +38,11 @@ use Rattle.forwarder.specs.Effects.{decided_packet, packet_to_decide}
 use Rattle.forwarder.specs.Runs.{Run, Start, Then, IsRun, MayReply, now_of, records_of, seen_after}
 use Rattle.forwarder.specs.Allowed.{AllowedIn}
 use Rattle.forwarder.specs.AskedFor.{AnswersItself, BringsPacketOn, IsOwnAnswer, WasAskedFor}
-use Rattle.forwarder.specs.DataSends.{BringsOctets, IsAtHand, IsExplained, IsForwardedData, IsReply, is_data}
+use Rattle.forwarder.specs.DataSends.{BringsOctets, IsAtHand, IsExplained, IsForwardedData, IsReply, IsReplyToCommand, IsSegmentAskedFor, is_data}
 use Rattle.forwarder.proofs.CachedRuns.{allowed_then, cached_came_allowed}
-use Rattle.mgmt_core.specs.Writing.{segment_at}
-use Rattle.forwarder.specs.Datasets.{dataset_text, is_present, segment_answer, segment_data, segment_name}
 use Rattle.forwarder.proofs.Contents.{back_holds, back_reads, begins, begins_data, read_is_data}
 use Rattle.forwarder.proofs.Explained.{all_explained}
+use Rattle.forwarder.proofs.OwnNames.{IsNamedFor, named_answers, own_named}
 use Rattle.forwarder.proofs.Origins.{AllFit, token_fits, waiting_fits}
 use Rattle.forwarder.proofs.Stored.{stored_is_of_allowed}
 
@@ -106,52 +105,24 @@ served_row name flag objects octets is =
 
 -- ---- the octets that are sent
 
-one_sent : (face : ℕ) (a b : List ℕ) → passed ((face, a) ∷ []) ≡ passed ((face, b) ∷ []) → a ≡ b
-one_sent face a b e =
-    let sends : ◌≡◌ {A = List Send} ((face, a) ∷ []) ((face, b) ∷ []) = ap (λ (x : Answer). x.sends) e in
-    let one : ◌≡◌ {A = Send} (face, a) (face, b) = cc (sends) in
-    ap (λ (s : Send). s.1) one
-
-never_passed : (sends : List Send) → dropped NoSegment ≡ passed sends → ⊥
-never_passed sends e = (let verdict : Dropped NoSegment ≡ Passed = ap (λ (x : Answer). x.verdict) e in cc verdict)
-
--- the octets of the node's own answer to an Interest begin with the type of a Data
-own_begins : (p : Policy) (face : ℕ) (whole : List ℕ) (i : PlainInterest) (packet : List ℕ) → IsOwnAnswer p face whole i packet → begins 6 packet ≡ true
-own_begins p face whole i packet (inl reply) = ap (begins 6) reply.1.2 ∙ begins_data _
-own_begins p face whole i packet (inr list) = by_version (is_present p list.0.version) refl
-  where
-    name : List Field
-    name = segment_name list.0.kind p.table_number list.0.segment
-
-    by_part : (part : Option (List ℕ × ℕ)) → segment_answer face None name part ≡ passed ((face, packet) ∷ []) → begins 6 packet ≡ true
-    by_part None e = absurd (never_passed _ e)
-    by_part (Some part) e = ap (begins 6) (sym (one_sent face (segment_data name part.0 part.1) packet e)) ∙ begins_data _
-
-    by_version : (b : Bool) → is_present p list.0.version ≡ b → begins 6 packet ≡ true
-    by_version true is =
-        by_part (segment_at (dataset_text p list.0.kind) list.0.segment)
-        (sym (ap (λ (b : Bool). cond b (segment_answer face None name (segment_at (dataset_text p list.0.kind) list.0.segment)) (dropped NoSegment)) is) ∙ list.2)
-    by_version false is =
-        absurd (never_passed _ (sym (ap (λ (b : Bool). cond b (segment_answer face None name (segment_at (dataset_text p list.0.kind) list.0.segment)) (dropped NoSegment)) is) ∙ list.2))
-
 some_ask : (o : Option InRecord) → IsSome o → (ask : InRecord) × (o ≡ Some ask)
 some_ask None is = cc is
 some_ask (Some ask) is = (ask, refl)
 
 module _ (first : Policy) (past : Run) (event : PlainEvent) (answer : Answer) (reply : MayReply first past event answer) (none : first.held.objects ≡ map.empty)
     (is : IsRun first past) (fits : BringsOctets event) (face : ℕ) (octets : List ℕ) where
-  abbrev now : ℕ
+  abbrev pub now : ℕ
   now = max (now_of past) (moment event)
 
-  abbrev q : Policy
+  abbrev pub q : Policy
   q = at_moment reply.was (moment event)
 
-  abbrev seen : Seen
+  abbrev pub seen : Seen
   seen = seen_after past q reply.waiting
 
   -- if the packet is a Data, the face asked for this Data
   abbrev Asked : PlainFrame → Type 0
-  Asked (AData whole d) = WasAskedFor first past reply.was event face whole d
+  Asked (AData whole d) = WasAskedFor first past reply.was event (face, octets) whole d
   Asked (AnInterest whole i) = Unit {0}
   Asked (ANack reason whole i) = Unit {0}
   Asked Idle = Unit {0}
@@ -187,6 +158,10 @@ module _ (first : Policy) (past : Run) (event : PlainEvent) (answer : Answer) (r
     sent_packet : octets ≡ lp_text (token_at r.octets) None r.packet
     sent_packet = ap (λ (s : Send). s.1) r.answered
 
+    -- the packet is sent back with the token of the event's packet
+    sent_with : ◌≡◌ {A = Send} (face, octets) (sent_back face (token_in event) r.packet)
+    sent_with = r.answered ∙ ap (λ (t : Token). sent_back face t r.packet) (sym (ap token_in r.brings))
+
     own_token : IfSome (token_at r.octets) IsToken
     own_token = token_fits r.octets (token_at r.octets) refl
 
@@ -199,8 +174,21 @@ module _ (first : Policy) (past : Run) (event : PlainEvent) (answer : Answer) (r
         let read = allowed_reads first past whole d allowed in (
           ap frame_at (sent_packet ∙ ap (λ (p : List ℕ). lp_text (token_at r.octets) None p) same)
               ∙ back_reads (token_at r.octets) whole whole d own_token (data_short whole whole d read) read,
-          inr (r.whole, r.interest, brought, inl (answered, allowed)),
+          inr (r.whole, r.interest, brought, (answered, inl allowed), sent_with ∙ ap (sent_back face (token_in event)) same),
         )
+
+    -- a cached or stored Data is read from its own octets
+    pub cached_frame : seen.MayGive (key_of r.interest) (Some r.packet) → (d : PlainData) × (frame_at r.packet ≡ Ok (AData r.packet d))
+    cached_frame (c, holds, serves, same) =
+        let came = cached_came_allowed first past c is holds in
+        let read = allowed_reads first past c.octets came.0 (allowed_then first past (AData c.octets came.0) c.arrival came.1) in
+        (came.0, subst (λ (text : List ℕ). frame_at text ≡ Ok (AData text came.0)) (sym same) read)
+
+    pub stored_frame : served r.interest.name r.interest.can_be_prefix seen.policy.held.objects ≡ Some r.packet → (d : PlainData) × (frame_at r.packet ≡ Ok (AData r.packet d))
+    stored_frame stored =
+        let row = served_row r.interest.name r.interest.can_be_prefix seen.policy.held.objects r.packet stored in
+        let came = stored_is_of_allowed first reply.was past row.0 r.packet none reply.is_policy row.1 in
+        (came.0, allowed_reads first past r.packet came.0 came.1)
 
     cached_asked : seen.MayGive (key_of r.interest) (Some r.packet) → (whole : List ℕ) × (d : PlainData) × (frame_at octets ≡ Ok (AData whole d)) × Asked (AData whole d)
     cached_asked (c, holds, serves, same) =
@@ -225,15 +213,35 @@ module _ (first : Policy) (past : Run) (event : PlainEvent) (answer : Answer) (r
         let found = earlier r.packet d refl came.1 answered in
         (r.packet, d, found.0, found.1)
 
-    own_asked : (whole : List ℕ) (d : PlainData) → frame_at octets ≡ Ok (AData whole d) → IsOwnAnswer q face r.whole r.interest r.packet → Asked (AData whole d)
-    own_asked whole d read own =
-        let same : r.packet ≡ whole = back_holds (token_at r.octets) r.packet whole d own_token (own_begins q face r.whole r.interest r.packet own) (sym (ap frame_at sent_packet) ∙ read) in
-        inr (r.whole, r.interest, brought, inr (subst (IsOwnAnswer q face r.whole r.interest) same own))
+    abbrev pub MadeIt : Type 0
+    MadeIt = IsReplyToCommand q face r.whole r.interest r.packet ⊎ IsSegmentAskedFor q face r.interest r.packet
+
+    own_name : MadeIt → IsNamedFor r.interest r.packet
+    own_name made = own_named q face r.octets r.whole r.interest r.packet (subst BringsOctets r.brings fits) r.read made
+
+    pub own_begun : MadeIt → begins 6 r.packet ≡ true
+    own_begun made = ap (begins 6) (own_name made).its.written ∙ begins_data _
+
+    own_answer : MadeIt → IsOwnAnswer q face r.whole r.interest r.packet
+    own_answer made = (made, (own_name made).its)
+
+    own_asked : (whole : List ℕ) (d : PlainData) → frame_at octets ≡ Ok (AData whole d) → MadeIt → Asked (AData whole d)
+    own_asked whole d read made =
+        let name = own_name made in
+        let same : r.packet ≡ whole = back_holds (token_at r.octets) r.packet whole d own_token (own_begun made) (sym (ap frame_at sent_packet) ∙ read) in
+        let answered = named_answers r.interest whole d (sha256 whole) (subst (IsNamedFor r.interest) same name) (data_alone octets whole d read) in
+        inr (
+          r.whole,
+          r.interest,
+          brought,
+          (answered, inr (subst (IsOwnAnswer q face r.whole r.interest) same (own_answer made))),
+          sent_with ∙ ap (sent_back face (token_in event)) same,
+        )
 
   by_frame : (whole : List ℕ) (d : PlainData) → frame_at octets ≡ Ok (AData whole d) → (packet : PlainFrame) × (frame_at octets ≡ Ok packet) × Asked packet → Asked (AData whole d)
   by_frame whole d read found = subst Asked (same_frame (AData whole d) found.0 read found.1) found.2
 
-  pub sent_was_asked_for : (whole : List ℕ) (d : PlainData) → Contains answer.sends (face, octets) → frame_at octets ≡ Ok (AData whole d) → WasAskedFor first past reply.was event face whole d
+  pub sent_was_asked_for : (whole : List ℕ) (d : PlainData) → Contains answer.sends (face, octets) → frame_at octets ≡ Ok (AData whole d) → WasAskedFor first past reply.was event (face, octets) whole d
   sent_was_asked_for whole d sent read =
       by_cause (All-contains (IsExplained seen event) answer.sends (face, octets) (all_explained seen event answer linked fits reply.replies) sent)
     where
@@ -255,8 +263,7 @@ module _ (first : Policy) (past : Run) (event : PlainEvent) (answer : Answer) (r
       by_hand : (r : IsReply seen event (face, octets)) → IsAtHand seen face r.whole r.interest r.packet → AnswersItself reply.was event (face, octets)
       by_hand r (inl given) = let found = cached_asked r given in absurd (unread found.0 found.1 found.2)
       by_hand r (inr (inl stored)) = let found = stored_asked r stored in absurd (unread found.0 found.1 found.2)
-      by_hand r (inr (inr own)) =
-          (r.whole, r.packet, r.interest, brought r, own, r.answered ∙ ap (λ (t : Token). sent_back face t r.packet) (sym (ap token_in r.brings)))
+      by_hand r (inr (inr own)) = (r.whole, r.packet, r.interest, brought r, own_answer r own, sent_with r)
 
       by_cause : IsExplained seen event (face, octets) → AnswersItself reply.was event (face, octets)
       by_cause (inl f) = absurd (unread f.whole f.packet (forwarded_asked f).0)

@@ -31,7 +31,7 @@ use Rattle.ndn_packets.proofs.WrittenLinks.{lp_nack_read}
 use Rattle.forwarder.specs.Causes.{is_nack, is_nack_frame, is_nacked}
 use Rattle.forwarder.specs.Event.{Token, to_each}
 use Rattle.forwarder.specs.NextHops.{sent_on}
-use Rattle.forwarder.specs.DataSends.{carries_data, holds_data, is_data, is_data_frame}
+use Rattle.forwarder.specs.DataSends.{carries_data, first_element, holds_data, is_data, is_data_frame}
 
 -- whether the first octet exists and equals `kind`
 abbrev pub begins : ℕ → List ℕ → Bool
@@ -51,11 +51,14 @@ begins_data value = refl
 -- The element of type `kind` and the octets after this element, or the fault Truncated if the
 -- TLV-VALUE is cut off. `len` is a pair: the TLV-LENGTH, and the octets that begin with the
 -- TLV-VALUE.
-abbrev sized : ℕ → ℕ × List ℕ → Result (Field × List ℕ) TlvFault
+abbrev pub sized : ℕ → ℕ × List ℕ → Result (Field × List ℕ) TlvFault
 sized kind len = cond (ltb (length len.1) len.0) (Err Truncated) (Ok ((kind, take len.0 len.1), drop len.0 len.1))
 
-abbrev only : Result (Field × List ℕ) TlvFault → Result Field PacketFault
+abbrev pub only : Result (Field × List ℕ) TlvFault → Result Field PacketFault
 only r = on_result (λ x. cond (is_nil x.1) (Ok x.0) (Err BadField)) (λ f. Err (Tlv f)) r
+
+abbrev first : Result (Field × List ℕ) TlvFault → Result Field TlvFault
+first r = r >>= λ x. Ok x.0
 
 abbrev framed : List ℕ → Bool → Result (Field × List ℕ) TlvFault → Result PlainFrame PacketFault
 framed text long r = cond long (Err TooLong) (only r >>= outer_of text) >>= λ f. Ok f.frame
@@ -64,11 +67,11 @@ frame_is : (text : List ℕ) → frame_at text ≡ framed text (nat_lt 9000 (len
 unfolding frame_at framed_at
 frame_is text = refl
 
-element_five : (octets : List ℕ) → element_at (5 ∷ octets) ≡ (number_at octets >>= sized 5)
+pub element_five : (octets : List ℕ) → element_at (5 ∷ octets) ≡ (number_at octets >>= sized 5)
 unfolding element_at number_at
 element_five octets = refl
 
-element_six : (octets : List ℕ) → element_at (6 ∷ octets) ≡ (number_at octets >>= sized 6)
+pub element_six : (octets : List ℕ) → element_at (6 ∷ octets) ≡ (number_at octets >>= sized 6)
 unfolding element_at number_at
 element_six octets = refl
 
@@ -90,16 +93,15 @@ five text false (Ok len) = by_size (ltb (length len.1) len.0) (take len.0 len.1)
     by_size false value [] = by_read (interest_of text value)
     by_size false value (octet ∷ rest) = (refl, refl)
 
--- Let octets that begin with the type of an Interest be read as one element. The result is an
+-- Let the first element of octets that begin with the type of an Interest be read. The result is an
 -- element of this type, or a fault. So `holds_data` is false for the result.
-five_holds : (r : Result (ℕ × List ℕ) TlvFault) → holds_data (only (r >>= sized 5)) ≡ false
+five_holds : (r : Result (ℕ × List ℕ) TlvFault) → holds_data (first (r >>= sized 5)) ≡ false
 five_holds (Err f) = refl
 five_holds (Ok len) = by_size (ltb (length len.1) len.0) (take len.0 len.1) (drop len.0 len.1)
   where
-    by_size : (cut : Bool) (value rest : List ℕ) → holds_data (only (cond cut (Err Truncated) (Ok ((5, value), rest)))) ≡ false
+    by_size : (cut : Bool) (value rest : List ℕ) → holds_data (first (cond cut (Err Truncated) (Ok ((5, value), rest)))) ≡ false
     by_size true value rest = refl
-    by_size false value [] = refl
-    by_size false value (octet ∷ rest) = refl
+    by_size false value rest = refl
 
 six : (text : List ℕ) (long : Bool) (r : Result (ℕ × List ℕ) TlvFault) → is_nack_frame (framed text long (r >>= sized 6)) ≡ false
 six text true r = refl
@@ -115,14 +117,14 @@ six text false (Ok len) = by_size (ltb (length len.1) len.0) (take len.0 len.1) 
     by_size false value [] = by_read (data_of text value)
     by_size false value (octet ∷ rest) = refl
 
--- If `text` is not read as a Data, and `holds_data` is false for the result of reading `text` as
--- one element, then `is_data` is false for `text`.
-no_data : (text : List ℕ) → is_data_frame (frame_at text) ≡ false → holds_data (only_element text) ≡ false → is_data text ≡ false
-no_data text read typed = ap (λ (b : Bool). b || holds_data (only_element text)) read ∙ typed
+-- If `text` is not read as a Data, and `holds_data` is false for the result of reading the first
+-- element of `text`, then `is_data` is false for `text`.
+no_data : (text : List ℕ) → is_data_frame (frame_at text) ≡ false → holds_data (first_element text) ≡ false → is_data text ≡ false
+no_data text read typed = ap (λ (b : Bool). b || holds_data (first_element text)) read ∙ typed
 
 -- `is_data` is true for octets that are read as a Data
 pub read_is_data : (text whole : List ℕ) (d : PlainData) → frame_at text ≡ Ok (AData whole d) → is_data text ≡ true
-read_is_data text whole d read = ap (λ (r : Result PlainFrame PacketFault). is_data_frame r || holds_data (only_element text)) read
+read_is_data text whole d read = ap (λ (r : Result PlainFrame PacketFault). is_data_frame r || holds_data (first_element text)) read
 
 -- octets that begin with the type of an Interest are neither a Nack nor a Data
 pub interest_is_neither : (text : List ℕ) → begins 5 text ≡ true → (is_nack text ≡ false) × (is_data text ≡ false)
@@ -134,7 +136,7 @@ interest_is_neither (octet ∷ octets) is =
     let frame : frame_at text ≡ framed text (nat_lt 9000 (length text)) (number_at octets >>= sized 5) = frame_is text ∙ ap (framed text (nat_lt 9000 (length text))) read in
     let neither = five text (nat_lt 9000 (length text)) (number_at octets) in (
       ap is_nack_frame frame ∙ neither.0,
-      no_data text (ap is_data_frame frame ∙ neither.1) (ap (λ (r : Result (Field × List ℕ) TlvFault). holds_data (only r)) read ∙ five_holds (number_at octets)),
+      no_data text (ap is_data_frame frame ∙ neither.1) (ap (λ (r : Result (Field × List ℕ) TlvFault). holds_data (first r)) read ∙ five_holds (number_at octets)),
     )
 
 -- octets that begin with the type of a Data are not a Nack
@@ -223,19 +225,22 @@ none_nacked (f ∷ faces) octets other = ap (λ (b : Bool). b || is_nacked (to_e
 -- ---- a link packet with a Nack header
 
 -- octets that are exactly one valid element are read as this element
-only_one : (f : Field) → IsField f → only_element (element f) ≡ Ok f
+pub only_one : (f : Field) → IsField f → only_element (element f) ≡ Ok f
 only_one f is = ap (λ (text : List ℕ). only (element_at text)) (sym (append-nil (element f))) ∙ ap only (element_again f [] is)
 
-link_is : (value : List ℕ) → link_at value ≡ link_from no_headers_yet (elements_of value)
+first_one : (f : Field) → IsField f → first_element (element f) ≡ Ok f
+first_one f is = ap (λ (text : List ℕ). first (element_at text)) (sym (append-nil (element f))) ∙ ap first (element_again f [] is)
+
+pub link_is : (value : List ℕ) → link_at value ≡ link_from no_headers_yet (elements_of value)
 unfolding link_at
 link_is value = refl
 
 -- if octets begin with an element, then this element is read first, and after it the elements of
 -- the remaining octets
-next_element : (f : Field) (rest : List ℕ) → IsField f → elements_of (element f ++ rest) ≡ Ok f ∷ elements_of rest
+pub next_element : (f : Field) (rest : List ℕ) → IsField f → elements_of (element f ++ rest) ≡ Ok f ∷ elements_of rest
 next_element f rest is = elements_of-ok (element f ++ rest) f rest (element_again f rest is)
 
-abbrev reason_value : ℕ → List ℕ
+abbrev pub reason_value : ℕ → List ℕ
 reason_value reason = octets ((801, shortest_nni reason) ∷ [])
 
 length-reason_value : (reason : ℕ) → length (reason_value reason) ≤ 26
@@ -244,29 +249,29 @@ length-reason_value reason =
     let part = length-element 801 (shortest_nni reason) in
     omega (arith, whole, part, length-spelling_nine 801, length-spelling_nine (length (shortest_nni reason)), length-shortest_eight reason)
 
-length-one : (kind : ℕ) (value : List ℕ) → length (element (kind, value)) ≤ length value + 18
+pub length-one : (kind : ℕ) (value : List ℕ) → length (element (kind, value)) ≤ length value + 18
 length-one kind value = omega (arith, length-element kind value, length-spelling_nine kind, length-spelling_nine (length value))
 
 is_one : (token : List ℕ) → IsToken token → is_token token ≡ true
 is_one token is = rw (le-leb 1 (length token) is.0, le-leb (length token) 32 is.1) refl
 
 -- a valid token is accepted as the first header of a link packet
-token_taken : (token : List ℕ) → IsToken token → take_header no_headers_yet (98, token) ≡ Ok (record no_headers_yet { token = Some token })
+pub token_taken : (token : List ℕ) → IsToken token → take_header no_headers_yet (98, token) ≡ Ok (record no_headers_yet { token = Some token })
 token_taken token is = ap (λ (b : Bool). cond (not b) (Err LpField) (Ok (record no_headers_yet { token = Some token }))) (is_one token is)
 
 -- In this module, a link packet has a Nack header and contains the octets `packet`, of which there
 -- are at most 8,800. This link packet is not a Data, whether the link packet has a token or not.
 module _ (reason : ℕ) (packet : List ℕ) (short : length packet ≤ 8800) where
-  abbrev last_part : List ℕ
+  abbrev pub last_part : List ℕ
   last_part = element (80, packet) ++ []
 
-  abbrev nack_part : List ℕ
+  abbrev pub nack_part : List ℕ
   nack_part = element (800, reason_value reason) ++ last_part
 
   nack_field_is : IsField (800, reason_value reason)
   nack_field_is = (let few = length-reason_value reason in (omega arith, omega arith, omega (arith, few)))
 
-  nack_part_short : length nack_part ≤ 8900
+  pub nack_part_short : length nack_part ≤ 8900
   nack_part_short =
       let few = length-reason_value reason in
       omega (arith, few, length-append (element (800, reason_value reason)) last_part, length-append (element (80, packet)) [], length-one 800 (reason_value reason), length-one 80 packet)
@@ -275,7 +280,7 @@ module _ (reason : ℕ) (packet : List ℕ) (short : length packet ≤ 8800) whe
   carries_none : carries_data (elements_of nack_part) ≡ false
   carries_none = ap carries_data (next_element (800, reason_value reason) last_part nack_field_is)
 
-  nack_elements : elements_of nack_part ≡ Ok (800, reason_value reason) ∷ (Ok (80, packet) ∷ [])
+  pub nack_elements : elements_of nack_part ≡ Ok (800, reason_value reason) ∷ (Ok (80, packet) ∷ [])
   nack_elements =
       let fragment : IsField (80, packet) = (omega arith, omega arith, omega (arith, short)) in
       next_element (800, reason_value reason) last_part nack_field_is
@@ -324,7 +329,7 @@ module _ (reason : ℕ) (packet : List ℕ) (short : length packet ≤ 8800) whe
       let one = only_one (100, nack_part) outer in
       no_data (element (100, nack_part))
       (ap is_data_frame (read_by nack_part (omega (arith, small)) one ∙ ap (λ (l : List (Result Field TlvFault)). link_from no_headers_yet l >>= λ f. Ok f.frame) nack_elements) ∙ nack_read None)
-      (ap holds_data one ∙ carries_none)
+      (ap holds_data (first_one (100, nack_part) outer) ∙ carries_none)
 
   token_nack : (token : List ℕ) → IsToken token → is_data (element (100, element (98, token) ++ nack_part)) ≡ false
   token_nack token is =
@@ -342,7 +347,7 @@ module _ (reason : ℕ) (packet : List ℕ) (short : length packet ≤ 8800) whe
       (ap is_data_frame (read_by value few one
       ∙ ap (λ (l : List (Result Field TlvFault)). link_from no_headers_yet l >>= λ f. Ok f.frame) (elements ∙ ap (λ (l : List (Result Field TlvFault)). Ok (98, token) ∷ l) nack_elements)
       ∙ ap (λ (r : Result LinkSoFar PacketFault). (r >>= λ s. link_from s (Ok (800, reason_value reason) ∷ (Ok (80, packet) ∷ []))) >>= λ f. Ok f.frame) header) ∙ nack_read (Some token))
-      (ap holds_data one ∙ ap carries_data elements ∙ carries_none)
+      (ap holds_data (first_one (100, value) outer) ∙ ap carries_data elements ∙ carries_none)
 
 -- a Nack around at most 8,800 octets, with a valid token or without a token, is not a Data
 pub nack_is_no_data : (token : Token) (reason : ℕ) (interest : List ℕ) → IfSome token IsToken → length interest ≤ 8800 → is_data (lp_text token (Some reason) interest) ≡ false
@@ -358,7 +363,7 @@ nack_is_nack token reason interest i is fits read small =
 
 -- ---- a link packet that has a token and contains a packet
 
-abbrev wrapped : List ℕ → List ℕ → List ℕ
+abbrev pub wrapped : List ℕ → List ℕ → List ℕ
 wrapped token packet = element (100, element (98, token) ++ (element (80, packet) ++ []))
 
 wrapped_short : (token packet : List ℕ) → IsToken token → length packet ≤ 8800 → length (wrapped token packet) ≤ 9000
@@ -379,13 +384,13 @@ wrapped_short token packet is short =
     )
 
 module _ (token packet : List ℕ) (is : IsToken token) (small : length (wrapped token packet) ≤ 9000) where
-  abbrev after_token : List ℕ
+  abbrev pub after_token : List ℕ
   after_token = element (80, packet) ++ []
 
-  abbrev value : List ℕ
+  abbrev pub value : List ℕ
   value = element (98, token) ++ after_token
 
-  value_short : length value ≤ 9000
+  pub value_short : length value ≤ 9000
   value_short = omega (arith, small, length-element 100 value)
 
   packet_short : length packet ≤ 9000
@@ -393,7 +398,7 @@ module _ (token packet : List ℕ) (is : IsToken token) (small : length (wrapped
       let few = value_short in
       omega (arith, few, length-append (element (98, token)) after_token, length-append (element (80, packet)) [], length-element 80 packet)
 
-  parts_are : elements_of value ≡ Ok (98, token) ∷ (Ok (80, packet) ∷ [])
+  pub parts_are : elements_of value ≡ Ok (98, token) ∷ (Ok (80, packet) ∷ [])
   parts_are =
       let few = packet_short in
       let first : IsField (98, token) = (omega arith, omega arith, omega (arith, is.1)) in

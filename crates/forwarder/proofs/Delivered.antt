@@ -1,6 +1,6 @@
 -- Which faces an allowed Data is sent to, and how the Data changes the cache.
 use Rattle.std.proofs.Common.{◌≡◌, ◌≢◌, inl, inr, ℕ, ◌<◌, ◌≤◌, Bool, true, false, cond, not, eqb, ltb, List, [], ◌∷◌, length, refl, sym, ap, subst, ◌∙◌, arith}
-use Rattle.std.specs.Prelude.{None, Some, map, IsSome, is_some, IsTrue, All, Contains, filter, ◌||◌, ◌↔◌}
+use Rattle.std.specs.Prelude.{None, Some, map, IsSome, is_some, IsTrue, All, filter, ◌||◌, ◌↔◌}
 use Rattle.std.specs.Ordering.{nat_cmp, is_eq}
 use Rattle.std.specs.Cmp.{nat_cmp_total, tied_itself}
 use Rattle.std.specs.FinMap.{entries, find, get, get-entries, len, len-entries}
@@ -12,7 +12,7 @@ use Rattle.pit_fib.specs.FaceSet.{IsRising, has_face}
 use Rattle.pit_fib.specs.Pit.{WaitsFor}
 use Rattle.pit_fib.specs.Tokens.{IsTokenFor}
 use Rattle.pit_fib.specs.Records.{InRecord, InRecords, Records, is_alive, records_at}
-use Rattle.content_store.specs.Store.{StoreState, with_cached}
+use Rattle.content_store.specs.Store.{LosesSome, StoreState, with_cached}
 use Rattle.forwarder.specs.Event.{Send, Token, to_each}
 use Rattle.forwarder.specs.Replies.{Askers, IsSentToAskers, faces_of, sent_to}
 use Rattle.forwarder.specs.Cache.{CacheAfter, Inserts, IsAwaited, held_from}
@@ -127,7 +127,7 @@ module _ (s : NodeState) (now : ℕ) (whole : List ℕ) (d : PlainData) (askers 
 
   module _ (old new : StoreState) where
     pub cached : 0 < length askers → (stored : Bool) → (stored ≡ true → new ≡ with_cached old (held_from now whole d))
-        → (stored ≡ false → All (λ c. Contains old.cached c) new.cached) → new.capacity ≡ old.capacity
+        → (stored ≡ false → LosesSome old.cached new.cached) → new.capacity ≡ old.capacity
         → CacheAfter now s.pending (Inserts (held_from now whole d)) old new
     cached some true ok refused same = inl (awaited_some askers refl some, inl (ok refl))
     cached some false ok refused same = inl (awaited_some askers refl some, inr (refused refl, same))

@@ -32,6 +32,7 @@ use Rattle.forwarder.proofs.Histories.{one_history, one_policy}
 use Rattle.forwarder.proofs.LaterMoments.{policy_apart}
 use Rattle.forwarder.proofs.ObjectChanges.{insert_comes, object_comes, object_stays}
 use Rattle.forwarder.proofs.Once.{never_again, newer}
+use Rattle.forwarder.proofs.TokensBack.{token_goes_back}
 use Rattle.forwarder.proofs.VerdictsNamed.{event_named}
 
 module _ (rules : List PlainRule) (keys : List NamedKey) (repo : List Field) where
@@ -41,13 +42,13 @@ module _ (rules : List PlainRule) (keys : List NamedKey) (repo : List Field) whe
   -- each Data in a valid answer was asked for
   sends_asked : (before : Run) (event : PlainEvent) (answer : Answer) (reply : MayReply first before event answer) → IsRun first before → BringsOctets event
       → (face : ℕ) (octets : List ℕ) → Contains answer.sends (face, octets) → is_data octets ≡ true
-      → ((whole : List ℕ) × (d : PlainData) × (frame_at octets ≡ Ok (AData whole d)) × WasAskedFor first before reply.was event face whole d)
+      → ((whole : List ℕ) × (d : PlainData) × (frame_at octets ≡ Ok (AData whole d)) × WasAskedFor first before reply.was event (face, octets) whole d)
       ⊎ AnswersItself reply.was event (face, octets)
   sends_asked before event answer reply is fits face octets sent data' = by_read (frame_at octets) refl
     where
       Asked : Type 0
       Asked =
-          ((whole : List ℕ) × (d : PlainData) × (frame_at octets ≡ Ok (AData whole d)) × WasAskedFor first before reply.was event face whole d)
+          ((whole : List ℕ) × (d : PlainData) × (frame_at octets ≡ Ok (AData whole d)) × WasAskedFor first before reply.was event (face, octets) whole d)
           ⊎ AnswersItself reply.was event (face, octets)
 
       own : ((whole : List ℕ) (d : PlainData) → frame_at octets ≡ Ok (AData whole d) → ⊥) → Asked
@@ -77,6 +78,7 @@ module _ (rules : List PlainRule) (keys : List NamedKey) (repo : List Field) whe
           once = λ whole other i j allowed allows same. never_again first was before event whole other i j apart.0 allowed w allows same;
           newer = λ whole other i j r s allowed allows a b same. newer first was before event whole other i j r s apart.0 allowed w allows a b same;
           asked = sends_asked before event answer reply is (All-head BringsOctets event (events_back before) fits);
+          token = λ face octets token sent has. token_goes_back first before event answer reply refl is (All-head BringsOctets event (events_back before) fits) face octets token has sent;
           given = λ whole d allows. (
             given.waiting,
             given.is_waiting,

@@ -26,7 +26,7 @@ use Rattle.repo_core.specs.Objects.{served}
 use Rattle.forwarder.specs.Event.{PlainEvent, Packet, FaceUp, FaceDown, Tick, NewRules, Send, moment, to_each, Token, nacked_back, sent_back, token_in}
 use Rattle.forwarder.specs.OpenFaces.{is_open}
 use Rattle.forwarder.specs.Verdict.{Answer, Verdict, IfTrueElse, Passed, Allowed, DataAllowed, Denied, NoRule, Dropped, Loop, NoFace, NoSegment, PitFull, dropped, passed}
-use Rattle.forwarder.specs.Request.{ListAsked, Request, Refused, ForList, ForTables, ForRepository, ForData, list_asked, request_of}
+use Rattle.forwarder.specs.Request.{ListAsked, Request, Refused, ForList, ForTables, ForRepository, ForData, request_of}
 use Rattle.forwarder.specs.NextHops.{ask_from, choice_for, sent_on}
 use Rattle.forwarder.specs.Commands.{command_answer}
 use Rattle.forwarder.specs.Datasets.{dataset_text, is_present, list_answer, segment_answer, segment_name}
@@ -39,7 +39,6 @@ use Rattle.forwarder.specs.Kept.{IsSentBack, IsKept, IsPassed, IsSentOn}
 use Rattle.forwarder.proofs.Chosen.{chosen_hop}
 use Rattle.forwarder.proofs.Contents.{interest_is_neither, none_nacked, read_begins, sent_on_begins}
 use Rattle.pit_fib.proofs.PendingPast.{asks_of_run}
-use Rattle.forwarder.proofs.Requests.{for_list}
 
 -- ---- which cause makes an Interest pending
 
@@ -282,7 +281,7 @@ module _ (seen : Seen) (event : PlainEvent) (answer : Answer) (face : ℕ) (whol
   by_present t asked b =
       cond b (segment_answer face t (segment_name asked.kind seen.policy.table_number asked.segment) (segment_at (dataset_text seen.policy asked.kind) asked.segment)) (dropped NoSegment)
 
-  on_list : (asked : ListAsked) → list_asked i ≡ Some asked → answer ≡ list_answer seen.policy face token asked → IsSentOnOrBack answer.sends
+  on_list : (asked : ListAsked) → request_of seen.policy face i ≡ ForList asked → answer ≡ list_answer seen.policy face token asked → IsSentOnOrBack answer.sends
   on_list asked found e = by_version (is_present seen.policy asked.version) refl
     where
       by_part : (part : Option (List ℕ × ℕ)) → list_answer seen.policy face token asked ≡ segment_answer face token (segment_name asked.kind seen.policy.table_number asked.segment) part
@@ -337,7 +336,7 @@ module _ (seen : Seen) (event : PlainEvent) (answer : Answer) (face : ℕ) (whol
 
   on_request : (r : Request) → request_of seen.policy face i ≡ r → RepliesToRequest seen face token whole i answer r → IsSentOnOrBack answer.sends
   on_request (Refused reason) e h = never (Dropped reason) (ap (λ (a : Answer). a.verdict) h) (λ f. cc f)
-  on_request (ForList asked) e h = on_list asked (for_list seen.policy face i asked e) h
+  on_request (ForList asked) e h = on_list asked e h
   on_request ForTables e h = on_command h.0 h.2
   on_request ForRepository e h = on_command h.0 h.2
   on_request ForData e h = on_data h

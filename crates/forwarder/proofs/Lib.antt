@@ -31,7 +31,14 @@ pub mod KeptInterests
 pub mod Named
 pub mod Tokens
 pub mod Origins
-mod AskedFor
+pub mod Stores
+pub mod OwnNames
+pub mod AskedFor
+pub mod Possible
+pub mod SomeWaiting
+pub mod SomeAnswer
+pub mod TokensRead
+pub mod TokensBack
 pub mod Asking
 pub mod Deciding
 pub mod ReplyLengths

@@ -179,16 +179,13 @@ module _ (reason : ℕ) where
         each [] = tt
         each (f ∷ some) = (get-entries asks f, each some)
 
--- ---- a property that each in-record has
+-- ---- a property that each in-record has, with its face
 
-module _ (P : InRecord → Type 0) where
-  abbrev OfEntry : ℕ × InRecord → Type 0
-  OfEntry e = P e.1
-
-  all_found : (es : List (ℕ × InRecord)) → T (is_sorted nat_cmp es) → ((f : ℕ) (r : InRecord) → find nat_cmp f es ≡ Some r → P r) → EachOf OfEntry es
-  all_found [] sorted are = All-nil OfEntry
+module _ (P : ℕ × InRecord → Type 0) where
+  all_found : (es : List (ℕ × InRecord)) → T (is_sorted nat_cmp es) → ((f : ℕ) (r : InRecord) → find nat_cmp f es ≡ Some r → P (f, r)) → EachOf P es
+  all_found [] sorted are = All-nil P
   all_found (e ∷ es) sorted are =
-      All-cons OfEntry e es (are e.0 e.1 (ap (λ b. cond b (Some e.1) (find nat_cmp e.0 es)) (tie e.0 e.0 ∙ eq-eqb e.0 e.0 refl)))
+      All-cons P e es (are e.0 e.1 (ap (λ b. cond b (Some e.1) (find nat_cmp e.0 es)) (tie e.0 e.0 ∙ eq-eqb e.0 e.0 refl)))
       (all_found es (second_of _ _ sorted) (λ f r found. are f r (by_face f r found (eqb f e.0) refl)))
     where
       by_face : (f : ℕ) (r : InRecord) → find nat_cmp f es ≡ Some r → (b : Bool) → eqb f e.0 ≡ b → find nat_cmp f (e ∷ es) ≡ Some r
@@ -198,7 +195,7 @@ module _ (P : InRecord → Type 0) where
           let none = none_below f es (subst (λ (k : ℕ). AllByRecursion (λ e. k < e.0) es) (sym one) (above e.0 es (first_of _ _ sorted))) in
           cc (none, found)
 
-  pub all_entries : (asks : InRecords) → ((f : ℕ) (r : InRecord) → get asks f ≡ Some r → P r) → EachOf OfEntry (entries asks)
+  pub all_entries : (asks : InRecords) → ((f : ℕ) (r : InRecord) → get asks f ≡ Some r → P (f, r)) → EachOf P (entries asks)
   all_entries asks are = all_found (entries asks) (entries_sorted asks) (λ f r found. are f r (get-entries asks f ∙ found))
 
 -- ---- the in-records that remain after time has passed

@@ -161,7 +161,7 @@ locals_in_entries (f ∷ all) local =
 or_absurd : {A : Type 0} → false ≡ true → A
 or_absurd e = absurd cc
 
-has-with_face : (g f : ℕ) (xs : List ℕ) → has_face g (numbers_of.with_face f xs) ≡ (eqb f g || has_face g xs)
+pub has-with_face : (g f : ℕ) (xs : List ℕ) → has_face g (numbers_of.with_face f xs) ≡ (eqb f g || has_face g xs)
 has-with_face g f [] = refl
 has-with_face g f (x ∷ xs) =
     elim (ltb f x) as (λ b. has_face g (cond b (f ∷ x ∷ xs) (x ∷ numbers_of.with_face f xs)) ≡ (eqb f g || (eqb x g || has_face g xs))) [

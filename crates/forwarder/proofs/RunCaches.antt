@@ -11,6 +11,7 @@ use Rattle.ndn_names.specs.Order.{name_cmp}
 use Rattle.ndn_packets.specs.Key.{PlainKey}
 use Rattle.pit_fib.specs.Records.{Pending}
 use Rattle.content_store.specs.Store.{CachedData, StoreState, Finds, Erases as IsErased, full_name_of, with_used, without}
+use Rattle.content_store.proofs.Losses.{loses_some-contained}
 use Rattle.forwarder.specs.Event.{PlainEvent, moment}
 use Rattle.forwarder.specs.Verdict.{Answer}
 use Rattle.forwarder.specs.Policy.{Policy, at_moment}
@@ -48,7 +49,7 @@ module _ (now : ℕ) (waiting : Pending) (old new : StoreState) (K K' : CachedDa
     inserted c arrives (inl (awaited, inl e)) =
         subst (λ (s : StoreState). All K' s.cached) (sym e)
         (All-take K' old.capacity (c ∷ without (full_name_of c) old.cached) (all_front K' c old.cached (arrives awaited) (All-weaker K K' keep old.cached held)))
-    inserted c arrives (inl (awaited, inr f)) = all_forgotten K' old.cached new.cached (All-weaker K K' keep old.cached held) f.0
+    inserted c arrives (inl (awaited, inr f)) = all_forgotten K' old.cached new.cached (All-weaker K K' keep old.cached held) (loses_some-contained old.cached new.cached f.0)
     inserted c arrives (inr (other, e)) = unchanged e
 
   -- Let `K'` follow from `K` for each Data that an erase may leave. With a count, an erase may

@@ -7,6 +7,7 @@ use Rattle.std.specs.FinMap.{get-empty}
 use Rattle.std.proofs.lemmas.List.Elements.{All-nil}
 use Rattle.ndn_packets.specs.Key.{key_cmp}
 use Rattle.pit_fib.specs.Records.{Pending, Records, no_records, records_at}
+use Rattle.content_store.proofs.Losses.{loses_some-contained}
 use Rattle.forwarder.specs.Event.{PlainEvent}
 use Rattle.forwarder.specs.Node.{NodeState, IsStep, ChangesCacheOnly}
 use Rattle.forwarder.specs.Policy.{Policy}
@@ -38,5 +39,5 @@ pub refused_stands : (first : Policy) (past : Run) (old new : NodeState) → Sta
 refused_stands first past old new stands unharmed = record {
   policy = subst (λ (p : Policy). IsPolicyOf first past p) (sym unharmed.policy) stands.policy;
   pending = λ key. ap (λ (t : Pending). records_at t key) unharmed.pending ∙ stands.pending key;
-  cache = all_forgotten (MayHold past) old.cache.cached new.cache.cached stands.cache unharmed.cache.0;
+  cache = all_forgotten (MayHold past) old.cache.cached new.cache.cached stands.cache (loses_some-contained old.cache.cached new.cache.cached unharmed.cache.0);
 }

@@ -1,12 +1,15 @@
 -- Why a Data is sent to a face: an Interest came from the face, and the Data answers this Interest
 -- or is the node's own answer to this Interest.
-use Rattle.std.specs.Prelude.{◌≡◌, ◌⊎◌, ℕ, List, Some, IsTrue, Ok, max}
+use Rattle.std.specs.Prelude.{◌≡◌, ◌⊎◌, ℕ, List, Option, Some, IsTrue, Ok, max}
 use Rattle.std.specs.FinMap as map
 use Rattle.sha2.specs.Sha256.{sha256}
-use Rattle.ndn_packets.specs.Answers.{answers}
+use Rattle.ndn_tlv.specs.Element.{Field}
+use Rattle.ndn_packets.specs.Answers.{AnswersByName, answers}
 use Rattle.ndn_packets.specs.FrameReading.{frame_at}
 use Rattle.ndn_packets.specs.Key.{PlainKey}
 use Rattle.ndn_packets.specs.Packet.{PlainInterest, PlainData, PlainFrame, AnInterest, AData}
+use Rattle.ndn_packets.specs.Writing.{signed_data}
+use Rattle.ndn_packets.specs.declared.signature.Sign.TheVariants.{Digest}
 use Rattle.pit_fib.specs.Cause.{Expires, records_after}
 use Rattle.pit_fib.specs.Records.{InRecord}
 use Rattle.forwarder.specs.Event.{PlainEvent, Packet, Send, moment, sent_back, token_in}
@@ -31,33 +34,43 @@ pub record BringsPacketOn (event : PlainEvent) (face : ℕ) (packet : PlainFrame
   pub brings : event ≡ Packet face now octets
   pub read : frame_at octets ≡ Ok packet
 
+-- the octets are a Data of the node's own, signed with DigestSha256, and the name that is written
+-- in them answers the Interest `i`: it is the Interest's name or, with CanBePrefix, begins with it
+pub record AnswersByItsName (i : PlainInterest) (octets : List ℕ) : Type 0 where
+  pub name : List Field
+  pub meta : Option (List ℕ)
+  pub content : List ℕ
+  pub written : octets ≡ signed_data Digest name meta (Some content)
+  pub answers : AnswersByName name i.name i.can_be_prefix
+
 -- `octets` are the node's own answer to the Interest `i`: the reply to a command, or the requested
--- segment of a list; `asked` are the octets of the Interest
+-- segment of a list; its name answers `i`; `asked` are the octets of the Interest
 abbrev pub IsOwnAnswer : Policy → ℕ → List ℕ → PlainInterest → List ℕ → Type 0
 IsOwnAnswer p face asked i octets =
-    IsReplyToCommand p face asked i octets ⊎ IsSegmentAskedFor p face i octets
+    (IsReplyToCommand p face asked i octets ⊎ IsSegmentAskedFor p face i octets)
+    × AnswersByItsName i octets
 
--- the Data `d` answers the Interest `i`, came in an event of the run `past`, and was allowed at
--- that event; or the octets `whole` are the node's own answer to `i`
+-- the Data `d` with the octets `whole` answers the Interest `i`; it came in an event of the run
+-- `past` and was allowed at that event, or it is the node's own answer to `i`
 abbrev pub AnswersNow : Policy → Run → Policy → ℕ → List ℕ → PlainInterest → List ℕ → PlainData
     → Type 0
 AnswersNow first past p face asked i whole d =
-    (IsTrue (answers d.name (sha256 whole) i.name i.can_be_prefix)
-    × AllowedIn first past (AData whole d))
-    ⊎ IsOwnAnswer p face asked i whole
+    IsTrue (answers d.name (sha256 whole) i.name i.can_be_prefix)
+    × (AllowedIn first past (AData whole d) ⊎ IsOwnAnswer p face asked i whole)
 
--- The face asked for the Data; `was` is the policy after the run `past`. There are three cases. In
--- the first case, the event brings the Data, the Data is allowed, and the Data answers an Interest
--- that is pending on the face. In the second case, the event brings an Interest on the face, and
--- the Data answers that Interest, came in an event of the run, and was allowed at that event of the
--- run. In the third case, the event brings an Interest on the face, and the Data is the node's own
--- answer to that Interest.
-abbrev pub WasAskedFor : Policy → Run → Policy → PlainEvent → ℕ → List ℕ → PlainData → Type 0
-WasAskedFor first past was event face whole d =
+-- The face that the Data is sent to asked for it; `was` is the policy after the run `past`. There
+-- are two cases. In the first case, the event brings the Data, the Data is allowed, and the Data
+-- answers an Interest that is pending on the face. In the second case, the event brings an Interest
+-- on the face, and the Data answers that Interest. It is sent back with the Interest's token, if
+-- there is one. It came in an event of the run and was allowed at that event, or it is the node's
+-- own answer to that Interest.
+abbrev pub WasAskedFor : Policy → Run → Policy → PlainEvent → Send → List ℕ → PlainData → Type 0
+WasAskedFor first past was event sent whole d =
     (Allows was event (AData whole d)
-    × IsPendingFor past (max (now_of past) (moment event)) face whole d)
-    ⊎ ((asked : List ℕ) × (i : PlainInterest) × BringsPacketOn event face (AnInterest asked i)
-    × AnswersNow first past (at_moment was (moment event)) face asked i whole d)
+    × IsPendingFor past (max (now_of past) (moment event)) sent.0 whole d)
+    ⊎ ((asked : List ℕ) × (i : PlainInterest) × BringsPacketOn event sent.0 (AnInterest asked i)
+    × AnswersNow first past (at_moment was (moment event)) sent.0 asked i whole d
+    × (sent ≡ sent_back sent.0 (token_in event) whole))
 
 -- the event brings an Interest on a face, and `sent` sends the node's own answer to that Interest
 -- back to that face, with the Interest's token, if there is one

@@ -1,6 +1,6 @@
 -- How an event uses the cache, and what the cache is after this use (NFD Developer's Guide,
 -- "Content Store").
-use Rattle.std.specs.Prelude.{◌≡◌, ◌⊎◌, ℕ, List, true, All, Contains, Option, None, Result, Ok, Err, IsTrue, is_some, ◌==◌, if◌then◌else◌}
+use Rattle.std.specs.Prelude.{◌≡◌, ◌⊎◌, ℕ, List, true, Option, None, Result, Ok, Err, IsTrue, is_some, ◌==◌, if◌then◌else◌}
 use Rattle.sha2.specs.Sha256.{sha256}
 use Rattle.ndn_tlv.specs.Element.{Field}
 use Rattle.ndn_names.specs.Name.{IsPrefix}
@@ -8,7 +8,7 @@ use Rattle.ndn_packets.specs.Answers.{answers}
 use Rattle.ndn_packets.specs.Key.{PlainKey, key_of}
 use Rattle.ndn_packets.specs.Packet.{PlainData}
 use Rattle.pit_fib.specs.Records.{Pending, is_alive, records_at}
-use Rattle.content_store.specs.Store.{CachedData, Erases as IsErased, Finds, StoreState, full_name_of, with_cached}
+use Rattle.content_store.specs.Store.{CachedData, Erases as IsErased, Finds, LosesSome, StoreState, full_name_of, with_cached}
 use Rattle.mgmt_core.specs.declared.action.Action.TheVariants.{EraseCache}
 use Rattle.mgmt_core.specs.declared.types.TheConstants.{OK}
 use Rattle.mgmt_core.specs.Reading.{PlainCommand, command_at}
@@ -60,18 +60,17 @@ IsAwaited waiting c =
     (key : PlainKey) × IsTrue (answers c.name c.digest key.name key.can_be_prefix)
     × (is_alive (records_at waiting key) ≡ true)
 
--- each Data in the store `new` is in the store `old`, and the capacity is the same; some Data may
--- have been dropped or reordered
+-- the store `new` is the store `old`, except that some Data may have been dropped; no Data is added,
+-- none is repeated, the order of use stays, and the capacity is the same
 abbrev pub MayForget : StoreState → StoreState → Type 0
-MayForget old new =
-    All (λ c. Contains old.cached c) new.cached × (new.capacity ≡ old.capacity)
+MayForget old new = LosesSome old.cached new.cached × (new.capacity ≡ old.capacity)
 
 -- The store `new` after a use of the store `old`. The use `Untouched` changes nothing. A Data that
 -- a lookup returns becomes the most recently used; a lookup that returns no Data changes nothing.
 -- If some face waits for an inserted Data, there are two cases. In the first case, the Data is
--- cached. In the second case, no Data is added, but some Data may be dropped or reordered
--- (`MayForget`). If no face waits for an inserted Data, nothing changes. An erase removes Data as
--- `IsErased` specifies, and leaves the capacity unchanged.
+-- cached. In the second case, no Data is added, but some Data may be dropped (`MayForget`). If no
+-- face waits for an inserted Data, nothing changes. An erase removes Data as `IsErased` specifies,
+-- and leaves the capacity unchanged.
 abbrev pub CacheAfter : ℕ → Pending → CacheUse → StoreState → StoreState → Type 0
 CacheAfter now waiting Untouched old new = new ≡ old
 CacheAfter now waiting (LooksUp key) old new =

@@ -3,9 +3,9 @@
 use Rattle.std.specs.Prelude.{◌≡◌, ◌≢◌, ◌⊎◌, ℕ, List, [], ◌∷◌, Bool, true, false, None, Some, All, Result, Ok, Err, ⊤, ◌==◌, ◌||◌, if◌then◌else◌}
 use Rattle.sha2.specs.Sha256.{sha256}
 use Rattle.ndn_tlv.specs.Element.{Field}
-use Rattle.ndn_tlv.specs.Reading.{elements_of}
+use Rattle.ndn_tlv.specs.Reading.{◌>>=◌, element_at, elements_of}
 use Rattle.ndn_tlv.specs.declared.fault.TlvFault.{TlvFault}
-use Rattle.ndn_packets.specs.FrameReading.{frame_at, only_element, token_at}
+use Rattle.ndn_packets.specs.FrameReading.{frame_at, token_at}
 use Rattle.ndn_packets.specs.Key.{key_of}
 use Rattle.ndn_packets.specs.Packet.{PlainInterest, PlainData, PlainFrame, AnInterest, AData, ANack, Idle}
 use Rattle.ndn_packets.specs.Writing.{AreOctets, reply_text}
@@ -22,7 +22,7 @@ use Rattle.forwarder.specs.Commands.{reply_content}
 use Rattle.forwarder.specs.Datasets.{list_answer}
 use Rattle.forwarder.specs.Effects.{decided_packet}
 use Rattle.forwarder.specs.Policy.{Policy}
-use Rattle.forwarder.specs.Request.{ListAsked, is_command, list_asked, request_of}
+use Rattle.forwarder.specs.Request.{ForList, ListAsked, is_command, request_of}
 use Rattle.forwarder.specs.Replies.{Seen, Waits}
 use Rattle.forwarder.specs.Verdict.{Answer, passed}
 
@@ -55,11 +55,11 @@ IsReplyToCommand p face whole i octets =
     × ((decision : Decision) × IsDecidedAs p (AnInterest whole i) decision
     × (octets ≡ reply_text i.name (reply_content p face i decision)))
 
--- the Interest `i` asks for a segment of a list, the segment exists, and `octets` are this segment
--- under the policy `p`
+-- the Interest `i` is answered as a request for a segment of a list, the segment exists, and
+-- `octets` are this segment under the policy `p`
 abbrev pub IsSegmentAskedFor : Policy → ℕ → PlainInterest → List ℕ → Type 0
 IsSegmentAskedFor p face i octets =
-    (asked : ListAsked) × (list_asked i ≡ Some asked)
+    (asked : ListAsked) × (request_of p face i ≡ ForList asked)
     × (list_answer p face None asked ≡ passed ((face, octets) ∷ []))
 
 -- `octets` are a Data that answers the Interest `i` at once: from the cache, from the repository,
@@ -92,30 +92,35 @@ is_data_frame (Ok (AData whole d)) = true
 is_data_frame (Ok (ANack reason whole i)) = false
 is_data_frame (Ok Idle) = false
 
+-- the first element of the octets, whatever comes after it, or a fault if it cannot be read
+abbrev pub first_element : List ℕ → Result Field TlvFault
+first_element text = element_at text >>= λ first. Ok first.0
+
 -- whether an element was read without a fault, and its type is that of a Data
-abbrev pub is_data_element : Result Field PacketFault → Bool
+abbrev pub is_data_element : Result Field TlvFault → Bool
 is_data_element (Err fault) = false
 is_data_element (Ok e) = e.0 == DATA
 
 -- Whether a link packet with these elements carries a Data. The link packet carries a Data if the
--- element in the first Fragment has the type of a Data, and neither a Nack nor a malformed element
--- comes before this Fragment.
+-- first Fragment begins with an element of the type of a Data, and neither a Nack nor a malformed
+-- element comes before this Fragment.
 abbrev pub carries_data : List (Result Field TlvFault) → Bool
 carries_data [] = false
 carries_data (Err fault ∷ elements) = false
 carries_data (Ok e ∷ elements) =
-    if e.0 == FRAGMENT then is_data_element (only_element e.1) else (
+    if e.0 == FRAGMENT then is_data_element (first_element e.1) else (
     if e.0 == NACK then false else
     carries_data elements)
 
-abbrev pub holds_data : Result Field PacketFault → Bool
+abbrev pub holds_data : Result Field TlvFault → Bool
 holds_data (Err fault) = false
 holds_data (Ok e) = if e.0 == LINK_PACKET then carries_data (elements_of e.1) else (e.0 == DATA)
 
 -- True if octets that go over a link are a Data or a link packet that carries a Data, and false
--- otherwise. A Data that is too long to be read, such as a long reply of the node, also counts.
+-- otherwise. A Data that is too long to be read, such as a long reply of the node, also counts, and
+-- so does a Data that other octets follow.
 abbrev pub is_data : List ℕ → Bool
-is_data octets = is_data_frame (frame_at octets) || holds_data (only_element octets)
+is_data octets = is_data_frame (frame_at octets) || holds_data (first_element octets)
 
 -- the send `sent` forwards the Data that the event brings, or is a reply to the Interest that the
 -- event brings, or its octets are neither a Data nor a link packet that carries a Data

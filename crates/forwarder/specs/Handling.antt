@@ -95,7 +95,7 @@ pub record AwaitsPacket (s : State) (face : ℕ) (token : Token) : Type 0 where
   pub objects : AreObjects s.repo.held.objects
 
 -- Either the result is Ok, and the packet was handled (`IsHandled`). Or memory ran out, nothing
--- changed except that cached Data may have been dropped or reordered, and nothing was sent.
+-- changed except that cached Data may have been dropped, and nothing was sent.
 pub record HandlesPacket (old new : State) (before after : List Send) (face : ℕ) (token : Token)
     (moment : ℕ) (packet : PlainFrame) (result : Result code.Verdict Memory) : Type 0 where
   pub handled : IfOk result (IsHandled old new before after face token moment packet)

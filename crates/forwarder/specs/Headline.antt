@@ -13,13 +13,14 @@
 -- Allowed: `Allows was event packet` and `AllowedIn first past packet`: the packet was allowed;
 -- Fold: `folded first run` is the fold;
 -- AskedFor: `WasAskedFor` and `AnswersItself` say which Interest a Data answers;
+-- TokenOwners: `IsOwnToken` says that a face brought a token;
 -- Replies: `IsSentToAskers` says to which faces a Data is sent, with which tokens.
 use Rattle.std.specs.Prelude.{◌≡◌, ◌⊎◌, ◌<◌, ℕ, List, [], Option, None, Some, IsSome, IsTrue, Ok, All, Contains, true, max}
 use Rattle.std.specs.FinMap as map
 use Rattle.sha2.specs.Sha256.{sha256}
 use Rattle.ndn_tlv.specs.Element.{Field}
 use Rattle.ndn_packets.specs.Answers.{full_name}
-use Rattle.ndn_packets.specs.FrameReading.{frame_at}
+use Rattle.ndn_packets.specs.FrameReading.{frame_at, token_at}
 use Rattle.ndn_packets.specs.Packet.{PlainInterest, PlainData, PlainFrame, AnInterest, AData, ANack, Idle}
 use Rattle.info_rules.specs.declared.decision.Decision.{Decision}
 use Rattle.info_rules.specs.declared.decision.Decision.TheVariants as decided
@@ -42,6 +43,7 @@ use Rattle.forwarder.specs.Fold.{contents_of, folded}
 use Rattle.forwarder.specs.Policy.{Policy, at_moment}
 use Rattle.forwarder.specs.Replies.{IsSentToAskers}
 use Rattle.forwarder.specs.Runs.{Run, Start, Then, IsRun, IsWaiting, KeysAreApart, events_back, now_of, seen_after}
+use Rattle.forwarder.specs.TokenOwners.{IsOwnToken}
 use Rattle.forwarder.specs.Verdict.{Passed, DataAllowed, Denied, NoRule, Dropped, DropReason, Answer}
 
 -- ---- commands and Data that rules decide
@@ -115,8 +117,11 @@ pub record AtEvent (first : Policy) (past : Run) (was : Policy) (event : PlainEv
   pub asked : (face : ℕ) (octets : List ℕ) → Contains answer.sends (face, octets)
       → is_data octets ≡ true
       → ((whole : List ℕ) × (d : PlainData) × (frame_at octets ≡ Ok (AData whole d))
-      × WasAskedFor first past was event face whole d)
+      × WasAskedFor first past was event (face, octets) whole d)
       ⊎ AnswersItself was event (face, octets)
+  -- a PIT token goes only to the face that brought it, be it with a Data, a Nack or a reply
+  pub token : (face : ℕ) (octets token : List ℕ) → Contains answer.sends (face, octets)
+      → token_at octets ≡ Some token → IsOwnToken past event face token
   -- an allowed Data is sent once to each other face that waits for it, with the token of the face's
   -- Interest, and to no further face
   pub given : (whole : List ℕ) (d : PlainData) → Allows was event (AData whole d)

@@ -19,6 +19,7 @@ pub mod Runs
 pub mod DataSends
 pub mod Allowed
 pub mod AskedFor
+pub mod TokenOwners
 pub mod Hops
 pub mod RouteReading
 pub mod Kept

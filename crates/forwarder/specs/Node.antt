@@ -67,8 +67,8 @@ pub record IsStep (old : NodeState) (event : PlainEvent) (answer : Answer)
       (cache_use (at_moment old.policy (moment event)).now (outcome_of event answer.verdict))
       old.cache new.cache
 
--- `new` is the node `old`, except that cached Data may have been dropped or reordered, as in a step
--- that ran out of memory
+-- `new` is the node `old`, except that cached Data may have been dropped, as in a step that ran out
+-- of memory
 pub record ChangesCacheOnly (old new : NodeState) : Type 0 where
   pub policy : new.policy ≡ old.policy
   pub pending : new.pending ≡ old.pending

@@ -21,7 +21,7 @@ ghost use Rattle.forwarder.specs.Commands.{IsDenial};
 ghost use Rattle.ndn_packets.specs.FrameReading.{frame_at};
 ghost use Rattle.ndn_packets.specs.Packet.{PlainData, PlainFrame, PlainInterest, AData, AnInterest};
 ghost use Rattle.ndn_packets.specs.Answers.{full_name};
-ghost use Rattle.content_store.specs.Store.{CachedData};
+ghost use Rattle.content_store.specs.Store.{CachedData, IsStore};
 ghost use Rattle.ndn_packets.specs.Key.{PlainKey, key_of};
 ghost use Rattle.ndn_tlv.specs.Element.{Field};
 ghost use Rattle.pit_fib.specs.Cause.{Arrives};
@@ -69,6 +69,18 @@ pub fn moments_in_a_row_are_as_the_later()
 pub fn steps_keep_nodes_sound()
     ensures { (old new : NodeState) (event : PlainEvent) (answer : Answer) → IsSound old
         → IsStep old event answer new → IsSound new }
+{}
+
+/// Law: a step keeps the cache a content store: within its capacity, with no two Data of the same
+/// full name, and with each Data as it was received. So does a step that ran out of memory. The law
+/// requires that the octets of the event's packet are numbers below 256, which is true of every
+/// event of a node.
+pub fn steps_keep_stores()
+    ensures step { (old new : NodeState) (event : PlainEvent) (answer : Answer)
+        → BringsOctets event → IsStore old.cache → IsStep old event answer new
+        → IsStore new.cache }
+    ensures memory { (old new : NodeState) → IsStore old.cache → ChangesCacheOnly old new
+        → IsStore new.cache }
 {}
 
 /// Law: let a node agree (`Stands`) with a valid run (`IsRun`) that starts from a policy with the
@@ -176,16 +188,16 @@ pub fn rules_in_force()
 /// the event after the run was asked for by the face that the Data is sent to. There are two cases.
 /// In the first case, the event brings the Data, the first rule that applies allows the Data, and
 /// the Data answers an Interest that is pending on the face. In the second case, the event brings
-/// an Interest on the face, and at least one of two things is true: the Data answers the Interest
-/// and was allowed in an event of the run, or the Data is the node's own answer to the Interest.
-/// The node's own answer is a segment of a list, or the reply to a command. The law requires that
-/// the octets of the event's packet are numbers below 256, which is true of every event of a node.
+/// an Interest on the face, the Data answers the Interest by its name, and it is sent with the
+/// Interest's token. It was allowed in an event of the run, or it is the node's own answer: a
+/// segment of a list, or the reply to a command. The law requires that the octets of the event's
+/// packet are numbers below 256, which is true of every event of a node.
 pub fn every_data_sent_was_asked_for()
     ensures read { (first : Policy) (past : Run) (event : PlainEvent) (answer : Answer) (face : ℕ)
         (octets whole : List ℕ) (d : PlainData) (reply : MayReply first past event answer)
         → first.held.objects ≡ map.empty → IsRun first past → BringsOctets event
         → Contains answer.sends (face, octets) → frame_at octets ≡ Ok (AData whole d)
-        → WasAskedFor first past reply.was event face whole d }
+        → WasAskedFor first past reply.was event (face, octets) whole d }
     // If a Data that the node sends cannot be read as a packet, for example because it is too long,
     // this Data is the node's own answer.
     ensures unread { (first : Policy) (past : Run) (event : PlainEvent) (answer : Answer) (face : ℕ)
@@ -358,11 +370,27 @@ pub fn denials_name_their_rule()
 /// command or Data that rules decide gets the verdict of the first matching rule, or the verdict
 /// that no rule matched. Routes, strategies and the repository are the fold of the commands and
 /// Data that were allowed, of the faces that closed, and of time. No command is allowed twice. Each
-/// Data that is sent was asked for. An object is stored only if it was wanted and allowed, and is
-/// removed only by an allowed delete.
+/// Data that is sent was asked for. A PIT token goes only to the face that brought it. An object is
+/// stored only if it was wanted and allowed, and is removed only by an allowed delete.
 pub fn headline()
     ensures { (rules : List PlainRule) (keys : List NamedKey) (repo : List Field) (run : Run)
         (p : Policy) → IsNodeRun (first_policy rules keys repo) run
         → IsPolicyOf (first_policy rules keys repo) run p
         → Headline (first_policy rules keys repo) run p }
+{}
+
+/// Law: after each valid run, each event has a valid answer, and some policy follows. So a run does
+/// not end for want of an answer, and the headline is not true for want of runs. The law says that
+/// this is not impossible (`¬ (¬ ..)`), and not which answer it is: that each packet has a decision
+/// of the rules is proved without a procedure that finds it.
+pub fn some_answer_follows()
+    ensures run { (first : Policy) (past : Run) (event : PlainEvent) → IsRun first past
+        → ¬ (¬ ((answer : Answer) × (p : Policy) × IsRun first (Then past event answer)
+        × IsPolicyOf first (Then past event answer) p)) }
+    // The same is true of the runs of a node, if the event has octets below 256, and keys that have
+    // different names.
+    ensures node { (first : Policy) (past : Run) (event : PlainEvent) → IsNodeRun first past
+        → BringsOctets event → BringsKeysApart event
+        → ¬ (¬ ((answer : Answer) × (p : Policy) × IsNodeRun first (Then past event answer)
+        × IsPolicyOf first (Then past event answer) p)) }
 {}

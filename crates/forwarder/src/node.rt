@@ -3,6 +3,7 @@ ghost use Rattle.hmac_keys.specs.KeyFile.{NamedKey};
 ghost use Rattle.info_rules.specs.Rule.{PlainRule};
 ghost use Rattle.ndn_packets.specs.FrameReading.{frame_at};
 ghost use Rattle.ndn_tlv.specs.Element.{Field};
+ghost use Rattle.content_store.specs.Store.{IsStore};
 ghost use Rattle.forwarder.specs.Event.{moment, plain, Send};
 ghost use Rattle.forwarder.specs.Node.{AsksNoMemory, IsStep, ChangesCacheOnly};
 ghost use Rattle.forwarder.specs.Parts.{first_node, is_bad_prefix as is_bad_prefix_of, parts_fault};
@@ -69,7 +70,7 @@ impl Model for Node {
     ghost use Rattle.forwarder.specs.Node.{NodeState};
     ghost use Rattle.forwarder.specs.State.{IsSound, state_of};
     ghost use Rattle.std.specs.Coded.{codes};
-    ghost use Rattle.content_store.specs.Store.{state_code as store_code};
+    ghost use Rattle.content_store.specs.Store.{IsStore, state_code as store_code};
     ghost use Rattle.repo_core.specs.Repo.{held_code};
     ghost use Rattle.repo_core.specs.Objects.{AreObjects};
     ghost use Rattle.forwarder.specs.Coded.{routes_code, choices_code, guard_code, pending_code};
@@ -80,7 +81,8 @@ impl Model for Node {
 
     ghost view = { λ n. state_of n.state };
 
-    ghost invariant = { λ n. IsSound (state_of n.state) × AreObjects n.state.repo.held.objects };
+    ghost invariant = { λ n. IsSound (state_of n.state) × AreObjects n.state.repo.held.objects
+        × IsStore n.state.tables.store };
 }
 
 impl From<AllocError> for NodeFault {
@@ -141,10 +143,12 @@ impl Node {
         Ok(Node { state })
     }
 
-    /// Returns the rules that decide commands and Data. The clause `sound` is true of every node.
+    /// Returns the rules that decide commands and Data. The clauses `sound` and `store` are true of
+    /// every node.
     pub fn rules(&self) -> &Rules
         ensures exact { result.now ≡ self.now.policy.rules }
         ensures sound { IsSound self.now }
+        ensures store { IsStore self.now.cache }
     {
         &self.state.rules
     }
@@ -218,11 +222,11 @@ impl Node {
     /// from the next event on. Apart from this, the event `NewRules` only advances time, as each
     /// event does.
     ///
-    /// If memory runs out, the cache may have dropped Data or changed their order of use; nothing
-    /// else changes. These events need no memory: face changes, ticks, new rules, packets on faces
-    /// that are not open, octets that hold no packet, packets out of scope (`DropReason::Scope`),
-    /// and Interests with HopLimit 0. A Data that the rules do not allow needs no memory, unless
-    /// the first rule that applies to the Data has a hyper-relation.
+    /// If memory runs out, the cache may have dropped Data; nothing else changes. These events need
+    /// no memory: face changes, ticks, new rules, packets on faces that are not open, octets that
+    /// hold no packet, packets out of scope (`DropReason::Scope`), and Interests with HopLimit 0. A
+    /// Data that the rules do not allow needs no memory, unless the first rule that applies to the
+    /// Data has a hyper-relation.
     pub fn step(&mut self, event: Event<'_>, outbox: &mut Outbox) -> Result<Verdict, Memory>
         // One step, from received octets to sent octets.
         ensures answered { IfOk result
@@ -251,6 +255,9 @@ impl Node {
         ensures memory { OnErr result (ChangesCacheOnly self.old self.new
             × (outbox.new ≡ outbox.old)) }
         ensures without_memory { AsksNoMemory self.old (plain event.entry) → IsOk result }
+        // The cache is within its capacity, and has each Data once and as it was received, even if
+        // memory ran out.
+        ensures store { IsStore self.new.cache }
         // The clauses `octets` and `keys` are true of every event.
         ensures octets { BringsOctets (plain event.entry) }
         ensures keys { BringsKeysApart (plain event.entry) }

@@ -6,13 +6,13 @@ use Rattle.std.specs.Io.BufRead.{DropsThrough, drop_through, take_through}
 use Rattle.std.specs.Io.KnownBytes.{Consumes}
 use Rattle.std.proofs.lemmas.Bool.{eqb-true}
 use Rattle.std.proofs.lemmas.List.{map-append, take_at}
-use Rattle.std.proofs.lemmas.List.Elements.{All-contains_itself}
 use Rattle.forwarder.specs.Event.{PlainEvent, Send}
 use Rattle.forwarder.specs.Node.{IsStep, NodeState, ChangesCacheOnly}
 use Rattle.forwarder.specs.Policy.{Policy}
 use Rattle.forwarder.specs.Runs.{Run, Start, Then, KeysAreApart}
 use Rattle.forwarder.specs.Verdict.{Answer, verdict_of}
 use Rattle.forwarder.specs.declared.verdict.Verdict.{Verdict}
+use Rattle.forwarder.proofs.Answered.{unharmed as left_alone}
 use Rattle.node_core.specs.Outcomes.{Outcome, Answered, AreOutcomes, IsEvent, IsOutcome, run_from}
 use Rattle.node_core.specs.Script.{AreLines, IsScriptSoFar, SpellEvents, ended, joined}
 use Rattle.node_core.specs.Script.Line.{IsEventLine, IsShort, IsSkipped, Lacks}
@@ -148,7 +148,7 @@ plays_step line event verdict held out old new lacks is is_event h =
 -- ---- the fault of a replay
 
 pub unharmed : (node : NodeState) → ChangesCacheOnly node node
-unharmed node = record { policy = refl; pending = refl; cache = (All-contains_itself node.cache.cached, refl) }
+unharmed node = left_alone node node refl refl refl
 
 pub stops_line : (f : ReplayFault) (old mid new : NodeState) (unread between left : Option (List ℕ)) (number events whole : ℕ) (line : List ℕ) → SoFar old mid unread between number events whole
     → Lacks 10 line → Consumes between left (ended line) → StopsLine line (number + 1) mid new f → StopsReplay old new unread left f

@@ -7,6 +7,7 @@ use Rattle.forwarder.specs.declared.verdict.Verdict.TheVariants as said
 use Rattle.forwarder.proofs.GoingOn.{goes_on, sound_after, stays_quiet, tick_step}
 use Rattle.forwarder.proofs.Headlines.{extends_headline}
 use Rattle.forwarder.proofs.Soundness.{step_sound}
+use Rattle.forwarder.proofs.Stores.{step_store, store_after}
 use Rattle.forwarder.proofs.StoredData.{later_stores, undecided_stores}
 use Rattle.forwarder.proofs.node.Node.step.Goals as goal
 
@@ -27,18 +28,22 @@ invariant_of-self c = (
   sound_after (state_of c.self.inside.state) (state_of c.receive.new.self) _ _ (Packet c.in-Packet.face c.in-Packet.now c.in-Packet.octets.now)
       c.receive.result c.self.invariant.0 c.receive.ensures.handled c.receive.ensures.memory,
   c.receive.ensures.objects,
+  store_after (state_of c.self.inside.state) (state_of c.receive.new.self) _ _ (Packet c.in-Packet.face c.in-Packet.now c.in-Packet.octets.now)
+      c.receive.result c.receive.ensures.octets c.self.invariant.2 c.receive.ensures.handled c.receive.ensures.memory,
 )
 
 pub invariant_of-self-in-FaceUp : goal.invariant_of-self-in-FaceUp
 invariant_of-self-in-FaceUp c = (
   step_sound _ _ _ _ c.self.invariant.0 c.open.ensures,
   undecided_stores (state_of c.self.inside.state).policy (state_of c.open.new.self).policy (FaceUp c.in-FaceUp.face c.in-FaceUp.scope c.in-FaceUp.now) c.open.ensures.policy c.self.invariant.1,
+  step_store (state_of c.self.inside.state) (state_of c.open.new.self) _ _ tt c.self.invariant.2 c.open.ensures,
 )
 
 pub invariant_of-self-in-FaceDown : goal.invariant_of-self-in-FaceDown
 invariant_of-self-in-FaceDown c = (
   step_sound _ _ _ _ c.self.invariant.0 c.close.ensures,
   undecided_stores (state_of c.self.inside.state).policy (state_of c.close.new.self).policy (FaceDown c.in-FaceDown.face c.in-FaceDown.now) c.close.ensures.policy c.self.invariant.1,
+  step_store (state_of c.self.inside.state) (state_of c.close.new.self) _ _ tt c.self.invariant.2 c.close.ensures,
 )
 
 pub invariant_of-self-in-Tick : goal.invariant_of-self-in-Tick
@@ -46,6 +51,8 @@ invariant_of-self-in-Tick c = (
   step_sound (state_of c.self.inside.state) (state_of c.pass_time.new.self) (Tick c.in-Tick.now) (passed []) c.self.invariant.0
       (tick_step (state_of c.self.inside.state) (state_of c.pass_time.new.self) c.in-Tick.now c.pass_time.ensures.later),
   later_stores c.self.inside.state c.pass_time.new.self c.in-Tick.now c.pass_time.ensures.later c.self.invariant.1,
+  step_store (state_of c.self.inside.state) (state_of c.pass_time.new.self) (Tick c.in-Tick.now) (passed []) tt c.self.invariant.2
+      (tick_step (state_of c.self.inside.state) (state_of c.pass_time.new.self) c.in-Tick.now c.pass_time.ensures.later),
 )
 
 pub invariant_of-self-in-NewRules : goal.invariant_of-self-in-NewRules
@@ -53,6 +60,7 @@ invariant_of-self-in-NewRules c = (
   step_sound _ _ _ _ c.self.invariant.0 c.replace_rules.ensures.step,
   undecided_stores (state_of c.self.inside.state).policy (state_of c.replace_rules.new.self).policy (NewRules c.in-NewRules.rules c.in-NewRules.keys c.in-NewRules.now)
       c.replace_rules.ensures.step.policy c.self.invariant.1,
+  step_store (state_of c.self.inside.state) (state_of c.replace_rules.new.self) _ _ tt c.self.invariant.2 c.replace_rules.ensures.step,
 )
 
 pub returns-in-Packet-clause-run : goal.returns-in-Packet-clause-run
@@ -122,3 +130,8 @@ returns-in-NewRules-clause-headline c =
     rw (← c.self.view_is, ← c.outbox.view_is, c.in-NewRules.is)
     (extends_headline (state_of c.self.inside.state) (state_of c.replace_rules.new.self) c.outbox.inside.sends.sends c.outbox.inside.sends.sends
     (NewRules c.in-NewRules.rules c.in-NewRules.keys c.in-NewRules.now) c.replace_rules.result tt c.replace_rules.ensures.apart (stays_quiet _ _ _ _ c.replace_rules.result c.replace_rules.ensures.step))
+
+pub returns-in-Packet-clause-store : goal.returns-in-Packet-clause-store
+returns-in-Packet-clause-store c =
+    store_after (state_of c.self.inside.state) (state_of c.receive.new.self) _ _ (Packet c.in-Packet.face c.in-Packet.now c.in-Packet.octets.now)
+    c.receive.result c.receive.ensures.octets c.self.invariant.2 c.receive.ensures.handled c.receive.ensures.memory

@@ -5,7 +5,6 @@ use Rattle.ndn_names.specs.View.{components}
 use Rattle.ndn_packets.specs.View.{plain_data}
 use Rattle.pit_fib.specs.Records.{records_at}
 use Rattle.pit_fib.specs.Tokens.{IsTokenFor}
-use Rattle.content_store.proofs.Losses.{loses_some-contained}
 use Rattle.forwarder.specs.State.{state_of}
 use Rattle.forwarder.specs.Replies.{sent_to}
 use Rattle.forwarder.specs.SendSpace.{SendsState}
@@ -55,7 +54,7 @@ returns-clause-cache c =
       | then-len-gt0 w ↦
           cached old c.args.self.now.now whole d askers c.satisfy-askers.ensures.faces c.args.self.now.tables.store c.if-len-gt0.self.tables.store
           (subst (λ n. 0 < n) c.len.ensures.exact w.if-len-gt0.true) w.put.result
-          (rw w.self-is w.put.ensures.ok) (λ no. loses_some-contained _ _ (rw w.self-is (w.put.ensures.refused no))) (rw w.self-is w.put.ensures.capacity)
+          (rw w.self-is w.put.ensures.ok) (λ no. rw w.self-is (w.put.ensures.refused no)) (rw w.self-is w.put.ensures.capacity)
       | else-len-gt0 w ↦
           not_cached old c.args.self.now.now whole d askers c.satisfy-askers.ensures.faces c.args.self.now.tables.store c.if-len-gt0.self.tables.store
           (subst (λ n. n ≤ 0) c.len.ensures.exact w.if-len-gt0.false) (rw w.self-is refl)
