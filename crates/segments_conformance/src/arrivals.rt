@@ -2,7 +2,7 @@
 //! Data.
 
 use crate::rows::check_rows;
-use ndn_names::NameBuf;
+use ndn_names::{Name, NameBuf};
 use ndn_packets::{Data, DataWriter, Frame, Sign, read_frame};
 use ndn_segments::{Assembler, SegmentFault, Taken, version_name};
 use std::alloc::Global;
@@ -125,21 +125,33 @@ fn fault_name(fault: SegmentFault) -> &'static str {
     }
 }
 
+/// Returns the writer of a segment.
+fn segment<'a>(name: Name<'a>, last: Option<u64>, content: &'a [u8]) -> DataWriter<'a> {
+    DataWriter {
+        name,
+        freshness: None,
+        last,
+        content: Some(content),
+        sign: Sign::Digest,
+    }
+}
+
+/// Returns the Data with this name. Its FinalBlockId is absent if `last` is no number.
+fn written(alloc: Global, uri: &str, last: &str, content: &[u8]) -> Option<Vec<u8>> {
+    let name = NameBuf::from_uri(alloc, uri).ok()?;
+    let mut out = Vec::new(alloc);
+    segment(name.view(), last.parse().ok(), content)
+        .write(&mut out)
+        .ok()?;
+    Some(out)
+}
+
+/// Returns the Data that a word spells: the end of its name, its last number and its content.
 fn packet_of(alloc: Global, word: &str) -> Option<Vec<u8>> {
     let (path, rest) = word.split_once('@')?;
     let (last, content) = rest.split_once(':')?;
     let uri = format!(in alloc; "/f/{path}").ok()?;
-    let name = NameBuf::from_uri(alloc, &uri).ok()?;
-    let data = DataWriter {
-        name: name.view(),
-        freshness: None,
-        last: last.parse().ok(),
-        content: Some(content.as_bytes()),
-        sign: Sign::Digest,
-    };
-    let mut out = Vec::new(alloc);
-    data.write(&mut out).ok()?;
-    Some(out)
+    written(alloc, &uri, last, content.as_bytes())
 }
 
 #[test]
