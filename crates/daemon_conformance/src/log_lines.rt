@@ -1,9 +1,9 @@
 //! Tests of the exact text of log lines.
 
 use info_rules::{InfoTree, Kind, Reason, RuleNo, Rules};
-use ndn_log::{Came, Entry, put_closed, put_event, put_failed_send, put_strangers};
+use ndn_log::{Entry, LoggedEvent, put_closed, put_event, put_failed_send, put_strangers};
 use ndn_packets::PacketFault;
-use node_core::{DropReason, Scope, Verdict};
+use node_core::{DropReason, Event, Scope, Verdict};
 use std::alloc::Global;
 use std::net::{Ipv4Addr, Ipv6Addr, SocketAddr, SocketAddrV4, SocketAddrV6};
 
@@ -54,8 +54,9 @@ fn is_line(alloc: Global, packet: &str, verdict: Verdict, line: &str) -> bool {
     };
     is_event_line(
         alloc,
-        Came::Packet {
+        Event::Packet {
             face: 2,
+            now: MOMENT,
             octets: &octets,
         },
         verdict,
@@ -65,16 +66,16 @@ fn is_line(alloc: Global, packet: &str, verdict: Verdict, line: &str) -> bool {
 
 /// Returns whether `line` is the log line of an event that has this verdict. The event is on a face
 /// at 192.0.2.7:6363.
-fn is_event_line(alloc: Global, came: Came<'_>, verdict: Verdict, line: &str) -> bool {
-    shown(alloc, came, verdict).is_some_and(|text| text.as_slice() == line.as_bytes())
+fn is_event_line(alloc: Global, event: LoggedEvent<'_>, verdict: Verdict, line: &str) -> bool {
+    shown(alloc, event, verdict).is_some_and(|text| text.as_slice() == line.as_bytes())
 }
 
 /// Returns the log line of an event that has this verdict. The event is on a face at
 /// 192.0.2.7:6363.
-fn shown(alloc: Global, came: Came<'_>, verdict: Verdict) -> Option<Vec<u8>> {
+fn shown(alloc: Global, event: LoggedEvent<'_>, verdict: Verdict) -> Option<Vec<u8>> {
     let rules = rules_of(alloc)?;
     let mut text = Vec::new(alloc);
-    put_line(alloc, &mut text, came, verdict, &rules)?;
+    put_line(alloc, &mut text, event, verdict, &rules)?;
     Some(text)
 }
 
@@ -89,14 +90,13 @@ fn rules_of(alloc: Global) -> Option<Rules> {
 fn put_line(
     alloc: Global,
     text: &mut Vec<u8>,
-    came: Came<'_>,
+    event: LoggedEvent<'_>,
     verdict: Verdict,
     rules: &Rules,
 ) -> Option<()> {
     let entry = Entry {
-        moment: MOMENT,
         endpoint: Some(SocketAddr::V4(SocketAddrV4::new(Ipv4Addr::new(192, 0, 2, 7), 6363))),
-        came,
+        event,
     };
     put_event(alloc, text, &entry, &Ok(verdict), rules).ok()
 }
@@ -108,8 +108,9 @@ fn says_more(alloc: Global) -> bool {
     };
     is_event_line(
         alloc,
-        Came::Packet {
+        Event::Packet {
             face: 2,
+            now: MOMENT,
             octets: &octets,
         },
         Verdict::Dropped(DropReason::Malformed(PacketFault::TooLong)),
@@ -130,11 +131,12 @@ fn cuts_name(alloc: Global, count: u8, end: &str) -> Option<bool> {
         .ok()?;
     octets.extend_from_slice(&letters).ok()?;
     octets.extend_from_slice(&[10, 4, 1, 2, 3, 4]).ok()?;
-    let came = Came::Packet {
+    let event = Event::Packet {
         face: 2,
-        octets: &octets,
+        now: MOMENT,
+        octets: octets.as_slice(),
     };
-    let line = shown(alloc, came, Verdict::Passed)?;
+    let line = shown(alloc, event, Verdict::Passed)?;
     let mut wanted = Vec::from_slice(alloc, NAMED).ok()?;
     wanted
         .extend_from_slice(&vec![in alloc; b'a'; 199].ok()?)
@@ -195,7 +197,10 @@ fn lines_of_events(rt: HostRuntime) {
         is_line(
             alloc,
             DATA,
-            Verdict::DataAllowed(RuleNo(1)),
+            Verdict::DataAllowed {
+                rule: RuleNo(1),
+                stored: false,
+            },
             "2026-11-27T22:10:00.123Z face 2 192.0.2.7:6363 Data /a: \
          allowed by rule transit, unverified\n",
         )
@@ -222,9 +227,10 @@ fn lines_of_events(rt: HostRuntime) {
     assert!(rt;
         is_event_line(
             alloc,
-            Came::Opened {
+            Event::FaceUp {
                 face: 65,
                 scope: Scope::Far,
+                now: MOMENT,
             },
             Verdict::Dropped(DropReason::FacesFull),
             "2026-11-27T22:10:00.123Z face 65 192.0.2.7:6363 opens, far: dropped, FacesFull\n",

@@ -7,8 +7,8 @@ use crate::watched::{Once, no_rules};
 use hmac_keys::KeyBook;
 use ndn_daemon::{LogLevel, LogSink, UdpOptions, run, run_restored};
 use ndn_names::NameBuf;
-use node_core::{Node, NodeParts, Scope, read_rules};
-use node_ports::{MemoryPorts, OwnedArrival};
+use node_core::{Event, Node, NodeParts, Scope, read_rules};
+use node_ports::MemoryPorts;
 use std::alloc::Global;
 use std::net::{Ipv4Addr, SocketAddr, SocketAddrV4};
 
@@ -58,13 +58,13 @@ fn options(alloc: Global, turns: u64, log: LogLevel) -> Option<UdpOptions> {
 /// Returns ports at which a face opens, and then an Interest without a route comes.
 fn ports(alloc: Global) -> Option<MemoryPorts> {
     let mut arrivals = Vec::new(alloc);
-    let up = OwnedArrival::FaceUp {
+    let up = Event::FaceUp {
         face: 1,
         scope: Scope::Local,
         now: 1000,
     };
     arrivals.push(up).ok()?;
-    let interest = OwnedArrival::Packet {
+    let interest = Event::Packet {
         face: 1,
         now: 1000,
         octets: Vec::from_slice(

@@ -3,8 +3,8 @@ ghost use Rattle.std.specs.Prelude.{⊤};
 
 use hmac_keys::KeyBook;
 use ndn_daemon::{Fault, RuleSource, WatchedPorts};
-use node_core::{RunFault, read_rules};
-use node_ports::{Arrival, FileOctets, MemoryPorts, OwnedArrival, Ports, Renewal, RestartedPorts};
+use node_core::{Event, RunFault, read_rules};
+use node_ports::{FileOctets, MemoryPorts, Ports, Renewal, RestartedPorts};
 use std::alloc::Global;
 
 /// A source that gives new rules once.
@@ -47,7 +47,7 @@ pub fn no_rules(alloc: Global) -> Option<Renewal> {
 fn packets_at(alloc: Global, moments: &[u64]) -> Option<MemoryPorts> {
     let mut arrivals = Vec::new(alloc);
     for now in moments {
-        let packet = OwnedArrival::Packet {
+        let packet = Event::Packet {
             face: 1,
             now: *now,
             octets: Vec::from_slice(alloc, b"\x05\x03\xff").ok()?,
@@ -60,7 +60,16 @@ fn packets_at(alloc: Global, moments: &[u64]) -> Option<MemoryPorts> {
 /// Returns whether the next arrival is a packet of `packets_at` at the time `at`.
 fn brings_packet<P: Ports>(ports: &mut P, at: u64) -> bool {
     let mut buffer = [0; 16];
-    let Ok(Arrival::Packet { face: 1, now, len }) = ports.next(&mut buffer) else {
+    let Ok(
+        Some(
+            Event::Packet {
+                face: 1,
+                now,
+                octets: len,
+            },
+        ),
+    ) = ports.next(&mut buffer)
+    else {
         return false;
     };
     now == at && len == 3 && buffer[0] == 5 && buffer[1] == 3 && buffer[2] == 255
@@ -68,12 +77,15 @@ fn brings_packet<P: Ports>(ports: &mut P, at: u64) -> bool {
 
 /// Returns whether the next arrival is new rules at the time `at`.
 fn brings_rules<P: Ports>(ports: &mut P, at: u64) -> bool {
-    matches!(ports.next(&mut [0; 16]), Ok(Arrival::NewRules { now, .. }) if now == at)
+    matches!(ports.next(&mut [0; 16]), Ok(Some(Event::NewRules { now, .. })) if now == at)
 }
 
 /// Returns whether the next arrival is the closing of this face at the time `at`.
 fn closes<P: Ports>(ports: &mut P, closed: u64, at: u64) -> bool {
-    matches!(ports.next(&mut [0; 16]), Ok(Arrival::FaceDown { face, now }) if face == closed && now == at)
+    matches!(
+        ports.next(&mut [0; 16]),
+        Ok(Some(Event::FaceDown { face, now })) if face == closed && now == at
+    )
 }
 
 /// Returns whether the source of rules is checked for the first time one second after the start.
@@ -104,14 +116,13 @@ fn restart_comes_first(alloc: Global) -> Option<bool> {
     let mut first = Vec::new(alloc);
     let renewal = no_rules(alloc)?;
     first
-        .push(OwnedArrival::NewRules { renewal, now: 40 })
+        .push(Event::NewRules {
+            rules: renewal,
+            now: 40,
+        })
         .ok()?;
-    first
-        .push(OwnedArrival::FaceDown { face: 7, now: 40 })
-        .ok()?;
-    first
-        .push(OwnedArrival::FaceDown { face: 9, now: 40 })
-        .ok()?;
+    first.push(Event::FaceDown { face: 7, now: 40 }).ok()?;
+    first.push(Event::FaceDown { face: 9, now: 40 }).ok()?;
     let mut ports = RestartedPorts::new(first, packets_at(alloc, &[50])?);
     Some(
         brings_rules(&mut ports, 40)

@@ -1,6 +1,6 @@
 -- How a Data is answered after time has advanced to the moment of its arrival. Two conditions under
 -- which `HandlesPacket` is true of a packet.
-use Rattle.std.proofs.Common.{◌≡◌, ℕ, true, false, not, List, [], refl, sym, ap, subst, ◌∙◌}
+use Rattle.std.proofs.Common.{◌≡◌, ℕ, Bool, true, false, not, List, [], refl, sym, ap, subst, ◌∙◌}
 use Rattle.std.specs.Prelude.{Result, Ok, Err, IfOk, IsErr, IsOk, nat_lt}
 use Rattle.std.proofs.lemmas.Bool.{false≢true}
 use Rattle.std.specs.List.{list_any}
@@ -69,15 +69,15 @@ still_wanted now name digest wants some =
 -- ---- the answer to a Data
 
 module _ (was new : NodeState) (face : ℕ) (token : Token) (whole : List ℕ) (d : PlainData) where
-  module _ (sends : List Send) (rule : RuleNo) (here : is_out_of_scope was.policy face d.name ≡ false)
+  module _ (sends : List Send) (rule : RuleNo) (stored : Bool) (is : stored ≡ is_wanted d.name (sha256 whole) was.policy.held.wants) (here : is_out_of_scope was.policy face d.name ≡ false)
       (said : IsDecidedAs was.policy (AData whole d) (decided.Allowed rule)) where
     pub data_delivered : IsSentToAskers (seen_by was) face whole d sends
         → new.policy ≡ record was.policy { held = after_offer d.name (sha256 whole) whole was.policy.held }
         → Follows (Satisfied d.name (sha256 whole)) was.pending new.pending → HoldsTheLiving new.pending
         → CacheAfter was.policy.now was.pending (Inserts (held_from was.policy.now whole d)) was.cache new.cache
-        → IsAnswered was face token (AData whole d) (record { verdict = DataAllowed rule.0; sends = sends }) new
+        → IsAnswered was face token (AData whole d) (record { verdict = DataAllowed rule.0 stored; sends = sends }) new
     data_delivered sent policy pending living cache = record {
-      replies = where_false _ _ (is_out_of_scope was.policy face d.name) here (decided.Allowed rule, said, (refl, sent));
+      replies = where_false _ _ (is_out_of_scope was.policy face d.name) here (decided.Allowed rule, said, (ap (DataAllowed rule.0) is, sent));
       policy = subst (λ b. IsPacketEffect was.policy face (AData whole d) new.policy (not b)) (sym here) (decided.Allowed rule, said, policy);
       pending = pending;
       alive = living;

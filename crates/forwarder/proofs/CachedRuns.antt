@@ -29,7 +29,7 @@ use Rattle.forwarder.proofs.Uses.{closing_inserts, read_inserts}
 abbrev pub CameAllowed : Policy → Run → CachedData → Type 0
 CameAllowed first run c = (d : PlainData) × AllowedAt first run (AData c.octets d) c.arrival × (c.name ≡ d.name) × (c.digest ≡ sha256 c.octets) × (c.freshness ≡ d.freshness)
 
-module _ (was : Policy) (past : Run) (waiting : Pending) (face now : ℕ) (octets : List ℕ) (answer : Answer) (rule : ℕ) (v : answer.verdict ≡ DataAllowed rule) where
+module _ (was : Policy) (past : Run) (waiting : Pending) (face now : ℕ) (octets : List ℕ) (answer : Answer) (rule : ℕ) (stored : Bool) (v : answer.verdict ≡ DataAllowed rule stored) where
   abbrev arrival : PlainEvent
   arrival = Packet face now octets
 
@@ -75,7 +75,7 @@ event_came first before (Packet face at octets) answer c now is reply used =
     let whole = came.0 in
     let d = came.1 in
     let held = came.2 in
-    let allowed = came_in reply.was before reply.waiting face at octets answer came.4.0 came.4.1 whole d came.3 reply.replies in (
+    let allowed = came_in reply.was before reply.waiting face at octets answer came.4.0 came.4.1 came.4.2 whole d came.3 reply.replies in (
       d,
       subst (λ (x : CachedData). AllowedAt first (Then before (Packet face at octets) answer) (AData x.octets d) x.arrival) (sym held) (inr (reply.was, reply.is_policy, allowed, is)),
       ap (λ (x : CachedData). x.name) held,

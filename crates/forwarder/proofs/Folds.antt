@@ -66,7 +66,7 @@ module _ (q new : Policy) (records : PlainKey → Records) (full : Bool) (G : Pl
   nack_idle : (from reason : ℕ) (whole : List ℕ) (i : PlainInterest) (v : Verdict) → after (packet_outcome from (ANack reason whole i) v) ≡ contents_of q
   nack_idle from reason whole i Passed = refl
   nack_idle from reason whole i (Allowed rule status) = refl
-  nack_idle from reason whole i (DataAllowed rule) = refl
+  nack_idle from reason whole i (DataAllowed rule stored) = refl
   nack_idle from reason whole i (Denied kind rule why) = refl
   nack_idle from reason whole i (NoRule kind) = refl
   nack_idle from reason whole i (Dropped why) = refl
@@ -74,7 +74,7 @@ module _ (q new : Policy) (records : PlainKey → Records) (full : Bool) (G : Pl
   empty_idle : (from : ℕ) (v : Verdict) → after (packet_outcome from Idle v) ≡ contents_of q
   empty_idle from Passed = refl
   empty_idle from (Allowed rule status) = refl
-  empty_idle from (DataAllowed rule) = refl
+  empty_idle from (DataAllowed rule stored) = refl
   empty_idle from (Denied kind rule why) = refl
   empty_idle from (NoRule kind) = refl
   empty_idle from (Dropped why) = refl

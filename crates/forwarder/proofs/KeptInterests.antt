@@ -117,10 +117,10 @@ module _ (now : ℕ) (event : PlainEvent) (answer : Answer) (key : PlainKey) (fa
   packet_kept from t octets (Ok (AData whole d)) e r (Allowed rule status) is = All-nil IsKeptBy
   packet_kept from t octets (Ok (ANack reason whole i)) e r (Allowed rule status) is = All-nil IsKeptBy
   packet_kept from t octets (Ok Idle) e r (Allowed rule status) is = All-nil IsKeptBy
-  packet_kept from t octets (Ok (AnInterest whole i)) e r (DataAllowed rule) is = All-nil IsKeptBy
-  packet_kept from t octets (Ok (AData whole d)) e r (DataAllowed rule) is = one _ (λ g. cc g)
-  packet_kept from t octets (Ok (ANack reason whole i)) e r (DataAllowed rule) is = All-nil IsKeptBy
-  packet_kept from t octets (Ok Idle) e r (DataAllowed rule) is = All-nil IsKeptBy
+  packet_kept from t octets (Ok (AnInterest whole i)) e r (DataAllowed rule stored) is = All-nil IsKeptBy
+  packet_kept from t octets (Ok (AData whole d)) e r (DataAllowed rule stored) is = one _ (λ g. cc g)
+  packet_kept from t octets (Ok (ANack reason whole i)) e r (DataAllowed rule stored) is = All-nil IsKeptBy
+  packet_kept from t octets (Ok Idle) e r (DataAllowed rule stored) is = All-nil IsKeptBy
   packet_kept from t octets (Ok packet) e r (Denied kind rule reason) is = All-nil IsKeptBy
   packet_kept from t octets (Ok packet) e r (NoRule kind) is = All-nil IsKeptBy
   packet_kept from t octets (Ok packet) e r (Dropped reason) is = All-nil IsKeptBy
@@ -128,7 +128,7 @@ module _ (now : ℕ) (event : PlainEvent) (answer : Answer) (key : PlainKey) (fa
   closing_kept : (from t : ℕ) (v : Verdict) → AllKept (causes_of now (FaceDown from t) (record { verdict = v; sends = answer.sends }))
   closing_kept from t Passed = one (Closed from) (λ g. cc g)
   closing_kept from t (Allowed rule status) = All-nil IsKeptBy
-  closing_kept from t (DataAllowed rule) = All-nil IsKeptBy
+  closing_kept from t (DataAllowed rule stored) = All-nil IsKeptBy
   closing_kept from t (Denied kind rule reason) = All-nil IsKeptBy
   closing_kept from t (NoRule kind) = All-nil IsKeptBy
   closing_kept from t (Dropped reason) = All-nil IsKeptBy

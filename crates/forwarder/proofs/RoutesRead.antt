@@ -52,7 +52,7 @@ record_routes p (Some r) = refl
 abbrev is_done : Verdict → Bool
 is_done Passed = false
 is_done (Allowed rule status) = status == OK
-is_done (DataAllowed rule) = false
+is_done (DataAllowed rule stored) = false
 is_done (Denied kind rule reason) = false
 is_done (NoRule kind) = false
 is_done (Dropped reason) = false
@@ -88,7 +88,7 @@ module _ {V : Type 0} (see : Routes → V) (q : Policy) (command : Result PlainC
       → cond (is_done v) (command (command_at i.name) from x) x ≡ after (packet_outcome from (AnInterest whole i) v) x
   command_read from whole i Passed x = refl
   command_read from whole i (Allowed rule status) x = refl
-  command_read from whole i (DataAllowed rule) x = refl
+  command_read from whole i (DataAllowed rule stored) x = refl
   command_read from whole i (Denied kind rule reason) x = refl
   command_read from whole i (NoRule kind) x = refl
   command_read from whole i (Dropped reason) x = refl
@@ -96,7 +96,7 @@ module _ {V : Type 0} (see : Routes → V) (q : Policy) (command : Result PlainC
   data_read : (from : ℕ) (whole : List ℕ) (d : PlainData) (v : Verdict) (x : V) → x ≡ after (packet_outcome from (AData whole d) v) x
   data_read from whole d Passed x = refl
   data_read from whole d (Allowed rule status) x = refl
-  data_read from whole d (DataAllowed rule) x = refl
+  data_read from whole d (DataAllowed rule stored) x = refl
   data_read from whole d (Denied kind rule reason) x = refl
   data_read from whole d (NoRule kind) x = refl
   data_read from whole d (Dropped reason) x = refl
@@ -104,7 +104,7 @@ module _ {V : Type 0} (see : Routes → V) (q : Policy) (command : Result PlainC
   nack_read : (from reason : ℕ) (whole : List ℕ) (i : PlainInterest) (v : Verdict) (x : V) → x ≡ after (packet_outcome from (ANack reason whole i) v) x
   nack_read from reason whole i Passed x = refl
   nack_read from reason whole i (Allowed rule status) x = refl
-  nack_read from reason whole i (DataAllowed rule) x = refl
+  nack_read from reason whole i (DataAllowed rule stored) x = refl
   nack_read from reason whole i (Denied kind rule why) x = refl
   nack_read from reason whole i (NoRule kind) x = refl
   nack_read from reason whole i (Dropped why) x = refl
@@ -112,7 +112,7 @@ module _ {V : Type 0} (see : Routes → V) (q : Policy) (command : Result PlainC
   idle_read : (from : ℕ) (v : Verdict) (x : V) → x ≡ after (packet_outcome from Idle v) x
   idle_read from Passed x = refl
   idle_read from (Allowed rule status) x = refl
-  idle_read from (DataAllowed rule) x = refl
+  idle_read from (DataAllowed rule stored) x = refl
   idle_read from (Denied kind rule reason) x = refl
   idle_read from (NoRule kind) x = refl
   idle_read from (Dropped reason) x = refl

@@ -28,6 +28,7 @@ use Rattle.pit_fib.specs.Pit.{loops, nacked_answer}
 use Rattle.pit_fib.specs.Records.{InRecord, Pending, Records}
 use Rattle.pit_fib.specs.Tokens.{IsAsker, IsNotAfter, IsTokenFor}
 use Rattle.pit_fib.proofs.RisingFaces.{with_rises}
+use Rattle.repo_core.specs.Wants.{is_wanted}
 use Rattle.forwarder.specs.Event.{PlainEvent, Packet, FaceUp, FaceDown, Tick, NewRules, Send, Token, moment}
 use Rattle.forwarder.specs.OpenFaces.{is_open}
 use Rattle.forwarder.specs.Verdict.{Answer, DataAllowed, Denied, IfTrueElse, Malformed, NoFace, NoRule, Idle as IsIdle, Scope as OutOfScope, dropped, passed}
@@ -395,7 +396,7 @@ module _ (first : Policy) (past : Run) (q : Policy) (now : ℕ) (waiting : Pendi
       (surely (interest_loop face token whole, refl)) (surely (by_content_store seen face token whole i None, (None, tt, refl)))
 
   said_answered : (face : ℕ) (whole : List ℕ) (d : PlainData) (said : Decision) → Answered (λ answer. RepliesByDecision seen face whole d answer said)
-  said_answered face whole d (decided.Allowed rule) = then' (some_sends face whole d) (λ sent. surely (record { verdict = DataAllowed rule.0; sends = sent.0 }, (refl, sent.1)))
+  said_answered face whole d (decided.Allowed rule) = then' (some_sends face whole d) (λ sent. surely (record { verdict = DataAllowed rule.0 (is_wanted d.name (sha256 whole) q.held.wants); sends = sent.0 }, (refl, sent.1)))
   said_answered face whole d (decided.Denied rule reason) = surely (record { verdict = Denied kinds.Data rule.0 reason; sends = [] }, refl)
   said_answered face whole d decided.NoRule = surely (record { verdict = NoRule kinds.Data; sends = [] }, refl)
 

@@ -127,7 +127,7 @@ of_interest : (P : ℕ → Type 0) (now face : ℕ) (token : Token) (whole : Lis
     → (verdict ≡ Passed → SendsTo P sends) → AreAdded P now face token (AnInterest whole i) verdict sends
 of_interest P now face token whole i Passed sends asker all = interest_adds P now face token whole i sends asker (all refl)
 of_interest P now face token whole i (Allowed rule status) sends asker all = tt
-of_interest P now face token whole i (DataAllowed rule) sends asker all = tt
+of_interest P now face token whole i (DataAllowed rule stored) sends asker all = tt
 of_interest P now face token whole i (Denied kind rule reason) sends asker all = tt
 of_interest P now face token whole i (NoRule kind) sends asker all = tt
 of_interest P now face token whole i (Dropped reason) sends asker all = tt
@@ -135,7 +135,7 @@ of_interest P now face token whole i (Dropped reason) sends asker all = tt
 of_data : (P : ℕ → Type 0) (now face : ℕ) (token : Token) (whole : List ℕ) (d : PlainData) (verdict : Verdict) (sends : List Send) → AreAdded P now face token (AData whole d) verdict sends
 of_data P now face token whole d Passed sends = tt
 of_data P now face token whole d (Allowed rule status) sends = tt
-of_data P now face token whole d (DataAllowed rule) sends = (λ f none. absurd none, tt)
+of_data P now face token whole d (DataAllowed rule stored) sends = (λ f none. absurd none, tt)
 of_data P now face token whole d (Denied kind rule reason) sends = tt
 of_data P now face token whole d (NoRule kind) sends = tt
 of_data P now face token whole d (Dropped reason) sends = tt
@@ -144,7 +144,7 @@ of_nack : (P : ℕ → Type 0) (now face reason : ℕ) (token : Token) (whole : 
     → AreAdded P now face token (ANack reason whole i) verdict sends
 of_nack P now face reason token whole i Passed sends = nack_adds P face reason i sends
 of_nack P now face reason token whole i (Allowed rule status) sends = tt
-of_nack P now face reason token whole i (DataAllowed rule) sends = tt
+of_nack P now face reason token whole i (DataAllowed rule stored) sends = tt
 of_nack P now face reason token whole i (Denied kind rule why) sends = tt
 of_nack P now face reason token whole i (NoRule kind) sends = tt
 of_nack P now face reason token whole i (Dropped why) sends = tt
@@ -152,7 +152,7 @@ of_nack P now face reason token whole i (Dropped why) sends = tt
 of_idle : (P : ℕ → Type 0) (now face : ℕ) (token : Token) (verdict : Verdict) (sends : List Send) → AreAdded P now face token Idle verdict sends
 of_idle P now face token Passed sends = tt
 of_idle P now face token (Allowed rule status) sends = tt
-of_idle P now face token (DataAllowed rule) sends = tt
+of_idle P now face token (DataAllowed rule stored) sends = tt
 of_idle P now face token (Denied kind rule why) sends = tt
 of_idle P now face token (NoRule kind) sends = tt
 of_idle P now face token (Dropped why) sends = tt

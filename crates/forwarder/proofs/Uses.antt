@@ -31,7 +31,7 @@ dropped_outcome face (Ok packet) reason = refl
 denied_packet : (face : ℕ) (packet : PlainFrame) (v : Verdict) → is_denied v ≡ true → packet_outcome face packet v ≡ Nothing
 denied_packet face packet Passed d = cc d
 denied_packet face packet (Allowed rule status) d = cc d
-denied_packet face packet (DataAllowed rule) d = cc d
+denied_packet face packet (DataAllowed rule stored) d = cc d
 denied_packet face packet (Denied kind rule reason) d = refl
 denied_packet face packet (NoRule kind) d = refl
 denied_packet face packet (Dropped reason) d = refl
@@ -43,7 +43,7 @@ denied_read face (Ok packet) v d = denied_packet face packet v d
 denied_closing : (face : ℕ) (v : Verdict) → is_denied v ≡ true → closing_outcome face v ≡ Nothing
 denied_closing face Passed d = cc d
 denied_closing face (Allowed rule status) d = refl
-denied_closing face (DataAllowed rule) d = refl
+denied_closing face (DataAllowed rule stored) d = refl
 denied_closing face (Denied kind rule reason) d = refl
 denied_closing face (NoRule kind) d = refl
 denied_closing face (Dropped reason) d = refl
@@ -60,7 +60,7 @@ denied_outcome (NewRules rules keys now) v d = refl
 pub nack_use : (now face reason : ℕ) (whole : List ℕ) (i : PlainInterest) (v : Verdict) → packet_use now face (ANack reason whole i) v ≡ Untouched
 nack_use now face reason whole i Passed = refl
 nack_use now face reason whole i (Allowed rule status) = refl
-nack_use now face reason whole i (DataAllowed rule) = refl
+nack_use now face reason whole i (DataAllowed rule stored) = refl
 nack_use now face reason whole i (Denied kind rule why) = refl
 nack_use now face reason whole i (NoRule kind) = refl
 nack_use now face reason whole i (Dropped why) = refl
@@ -125,7 +125,7 @@ inserts_by now (FaceClosed face) c e = cc e
 -- Let `read` be the result of reading octets, and let the outcome be that the Data `whole` was
 -- allowed. Then `read` is this Data, and the verdict `v` is `DataAllowed`.
 data_came : (face : ℕ) (read : Result PlainFrame PacketFault) (v : Verdict) (whole : List ℕ) (d : PlainData) → read_outcome face read v ≡ DataCame whole d
-    → (read ≡ Ok (AData whole d)) × ((rule : ℕ) × (v ≡ DataAllowed rule))
+    → (read ≡ Ok (AData whole d)) × ((rule : ℕ) × (stored : Bool) × (v ≡ DataAllowed rule stored))
 data_came face (Err fault) v whole d e = cc e
 data_came face (Ok (AnInterest w i)) Passed whole d e = cc e
 data_came face (Ok (AData w c)) Passed whole d e = cc e
@@ -135,18 +135,18 @@ data_came face (Ok (AnInterest w i)) (Allowed rule status) whole d e = cc e
 data_came face (Ok (AData w c)) (Allowed rule status) whole d e = cc e
 data_came face (Ok (ANack reason w i)) (Allowed rule status) whole d e = cc e
 data_came face (Ok Idle) (Allowed rule status) whole d e = cc e
-data_came face (Ok (AnInterest w i)) (DataAllowed rule) whole d e = cc e
-data_came face (Ok (AData w c)) (DataAllowed rule) whole d e =
+data_came face (Ok (AnInterest w i)) (DataAllowed rule stored) whole d e = cc e
+data_came face (Ok (AData w c)) (DataAllowed rule stored) whole d e =
     let same : w ≡ whole = cc e in
-    let packet : c ≡ d = cc e in (λ j. Ok (AData (same j) (packet j)), (rule, refl))
-data_came face (Ok (ANack reason w i)) (DataAllowed rule) whole d e = cc e
-data_came face (Ok Idle) (DataAllowed rule) whole d e = cc e
+    let packet : c ≡ d = cc e in (λ j. Ok (AData (same j) (packet j)), (rule, stored, refl))
+data_came face (Ok (ANack reason w i)) (DataAllowed rule stored) whole d e = cc e
+data_came face (Ok Idle) (DataAllowed rule stored) whole d e = cc e
 data_came face (Ok packet) (Denied kind rule reason) whole d e = cc e
 data_came face (Ok packet) (NoRule kind) whole d e = cc e
 data_came face (Ok packet) (Dropped reason) whole d e = cc e
 
 pub read_inserts : (now face : ℕ) (read : Result PlainFrame PacketFault) (v : Verdict) (c : CachedData) → cache_use now (read_outcome face read v) ≡ Inserts c
-    → (whole : List ℕ) × (d : PlainData) × (c ≡ held_from now whole d) × (read ≡ Ok (AData whole d)) × ((rule : ℕ) × (v ≡ DataAllowed rule))
+    → (whole : List ℕ) × (d : PlainData) × (c ≡ held_from now whole d) × (read ≡ Ok (AData whole d)) × ((rule : ℕ) × (stored : Bool) × (v ≡ DataAllowed rule stored))
 read_inserts now face read v c e =
     let by = inserts_by now (read_outcome face read v) c e in
     let came = data_came face read v by.0 by.1 by.2 in (by.0, by.1, by.3, came.0, came.1)
@@ -154,7 +154,7 @@ read_inserts now face read v c e =
 pub closing_inserts : (now face : ℕ) (v : Verdict) (c : CachedData) → cache_use now (closing_outcome face v) ≡ Inserts c → ⊥
 closing_inserts now face Passed c e = cc e
 closing_inserts now face (Allowed rule status) c e = cc e
-closing_inserts now face (DataAllowed rule) c e = cc e
+closing_inserts now face (DataAllowed rule stored) c e = cc e
 closing_inserts now face (Denied kind rule reason) c e = cc e
 closing_inserts now face (NoRule kind) c e = cc e
 closing_inserts now face (Dropped reason) c e = cc e

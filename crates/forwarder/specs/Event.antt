@@ -1,5 +1,7 @@
 -- Events and sends as plain data.
 use Rattle.std.specs.Prelude.{ℕ, List, map, Option, None, Some}
+use Rattle.std.specs.Borrow.{Bor}
+use Rattle.std.specs.Global.{Vec}
 use Rattle.hmac_keys.specs.KeyFile.{NamedKey}
 use Rattle.info_rules.specs.Rule.{PlainRule}
 use Rattle.ndn_packets.specs.FrameReading.{token_at}
@@ -7,8 +9,7 @@ use Rattle.ndn_packets.specs.Writing.{lp_text}
 use Rattle.forwarder.specs.declared.event.Scope.{Scope}
 use Rattle.forwarder.specs.declared.event.Event.{Event}
 use Rattle.forwarder.specs.declared.event.Event.TheVariants as code
-use Rattle.forwarder.specs.declared.event.OwnedEvent.{OwnedEvent}
-use Rattle.forwarder.specs.declared.event.OwnedEvent.TheVariants as owned
+use Rattle.forwarder.specs.declared.event.RulesAndKeys.{RulesAndKeys}
 
 pub data PlainEvent : Type 0 where
   Packet : (face now : ℕ) (octets : List ℕ) → PlainEvent
@@ -17,20 +18,39 @@ pub data PlainEvent : Type 0 where
   Tick : (now : ℕ) → PlainEvent
   NewRules : (rules : List PlainRule) (keys : List NamedKey) (now : ℕ) → PlainEvent
 
--- an event as plain data, independent of where its octets are in memory
-abbrev pub plain : Event → PlainEvent
-plain (code.Packet face now octets) = Packet face now octets.now
-plain (code.FaceUp face scope now) = FaceUp face scope now
-plain (code.FaceDown face now) = FaceDown face now
-plain (code.Tick now) = Tick now
-plain (code.NewRules rules keys now) = NewRules rules keys now
+-- The event as plain data, however it holds the octets of a packet and new rules and keys:
+-- `octets_of` says which octets are held, `rules_of` and `keys_of` which rules and keys.
+abbrev pub plain_by : {O R : Type 0} → (O → List ℕ) → (R → List PlainRule) → (R → List NamedKey)
+    → Event O R → PlainEvent
+plain_by octets_of rules_of keys_of (code.Packet face now octets) =
+    Packet face now (octets_of octets)
+plain_by octets_of rules_of keys_of (code.FaceUp face scope now) = FaceUp face scope now
+plain_by octets_of rules_of keys_of (code.FaceDown face now) = FaceDown face now
+plain_by octets_of rules_of keys_of (code.Tick now) = Tick now
+plain_by octets_of rules_of keys_of (code.NewRules rules now) =
+    NewRules (rules_of rules) (keys_of rules) now
 
-abbrev pub plain_owned : OwnedEvent → PlainEvent
-plain_owned (owned.Packet face now octets) = Packet face now octets.items
-plain_owned (owned.FaceUp face scope now) = FaceUp face scope now
-plain_owned (owned.FaceDown face now) = FaceDown face now
-plain_owned (owned.Tick now) = Tick now
-plain_owned (owned.NewRules rules keys now) = NewRules rules keys now
+abbrev pub plain : Event (Bor (List ℕ)) RulesAndKeys → PlainEvent
+plain event = plain_by (λ octets. octets.now) (λ r. r.rules) (λ r. r.keys) event
+
+abbrev pub plain_owned : Event (Vec ℕ) RulesAndKeys → PlainEvent
+plain_owned event = plain_by (λ octets. octets.items) (λ r. r.rules) (λ r. r.keys) event
+
+-- the moment of an event, however it holds its octets
+abbrev pub moment_of : {O R : Type 0} → Event O R → ℕ
+moment_of (code.Packet face now octets) = now
+moment_of (code.FaceUp face scope now) = now
+moment_of (code.FaceDown face now) = now
+moment_of (code.Tick now) = now
+moment_of (code.NewRules rules now) = now
+
+-- the event with its moment replaced by `t`
+abbrev pub at : {O R : Type 0} → ℕ → Event O R → Event O R
+at t (code.Packet face now octets) = code.Packet face t octets
+at t (code.FaceUp face scope now) = code.FaceUp face scope t
+at t (code.FaceDown face now) = code.FaceDown face t
+at t (code.Tick now) = code.Tick t
+at t (code.NewRules rules now) = code.NewRules rules t
 
 abbrev pub moment : PlainEvent → ℕ
 moment (Packet face now octets) = now

@@ -53,7 +53,7 @@ abbrev pub IsAnswerBy : Policy → ℕ → Token → PlainFrame → Decision →
 IsAnswerBy p face token (AnInterest whole i) decision answer =
     answer ≡ command_answer p face token i decision
 IsAnswerBy p face token (AData whole d) (decided.Allowed rule) answer =
-    answer.verdict ≡ DataAllowed rule.0
+    answer.verdict ≡ DataAllowed rule.0 (is_wanted d.name (sha256 whole) p.held.wants)
 IsAnswerBy p face token (AData whole d) (decided.Denied rule reason) answer =
     answer ≡ record { verdict = Denied kinds.Data rule.0 reason; sends = [] }
 IsAnswerBy p face token (AData whole d) decided.NoRule answer =

@@ -23,7 +23,6 @@ pub mod TokenOwners
 pub mod Hops
 pub mod RouteReading
 pub mod Kept
-pub mod Wanted
 pub mod State
 pub mod Coded
 pub mod Handling

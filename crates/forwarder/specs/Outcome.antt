@@ -44,7 +44,7 @@ allowed_data Idle = Nothing
 abbrev pub packet_outcome : ℕ → PlainFrame → Verdict → Outcome
 packet_outcome face packet Passed = passed_packet face packet
 packet_outcome face packet (Allowed rule status) = allowed_command face status packet
-packet_outcome face packet (DataAllowed rule) = allowed_data packet
+packet_outcome face packet (DataAllowed rule stored) = allowed_data packet
 packet_outcome face packet (Denied kind rule reason) = Nothing
 packet_outcome face packet (NoRule kind) = Nothing
 packet_outcome face packet (Dropped reason) = Nothing
@@ -56,7 +56,7 @@ read_outcome face (Ok packet) verdict = packet_outcome face packet verdict
 abbrev pub closing_outcome : ℕ → Verdict → Outcome
 closing_outcome face Passed = FaceClosed face
 closing_outcome face (Allowed rule status) = Nothing
-closing_outcome face (DataAllowed rule) = Nothing
+closing_outcome face (DataAllowed rule stored) = Nothing
 closing_outcome face (Denied kind rule reason) = Nothing
 closing_outcome face (NoRule kind) = Nothing
 closing_outcome face (Dropped reason) = Nothing

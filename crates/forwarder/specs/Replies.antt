@@ -23,6 +23,7 @@ use Rattle.pit_fib.specs.Tokens.{IsTokenFor}
 use Rattle.strategies.specs.declared.strategy.Choice.{Choice}
 use Rattle.strategies.specs.declared.strategy.Choice.TheVariants as choices
 use Rattle.repo_core.specs.Objects.{served}
+use Rattle.repo_core.specs.Wants.{is_wanted}
 use Rattle.pit_fib.specs.declared.face_set.TheConstants.{MAX_FACES}
 use Rattle.forwarder.specs.Event.{PlainEvent, Packet, FaceUp, FaceDown, Tick, NewRules, Send, Token, nacked_back, sent_back, to_each}
 use Rattle.forwarder.specs.OpenFaces.{is_open}
@@ -159,9 +160,12 @@ IsSentToAskers seen face whole d sends =
     × All (λ a. IsTokenFor seen.records d.name (sha256 whole) a.0 a.1) askers
     × (sends ≡ sent_to askers whole)
 
+-- An allowed Data is sent to the faces that wait for it. The verdict names the rule, and tells
+-- whether a pending insert of the repository asks for the Data, which is then stored.
 abbrev pub RepliesByDecision : Seen → ℕ → List ℕ → PlainData → Answer → Decision → Type 0
 RepliesByDecision seen face whole d answer (decided.Allowed rule) =
-    (answer.verdict ≡ DataAllowed rule.0) × IsSentToAskers seen face whole d answer.sends
+    (answer.verdict ≡ DataAllowed rule.0 (is_wanted d.name (sha256 whole) seen.policy.held.wants))
+    × IsSentToAskers seen face whole d answer.sends
 RepliesByDecision seen face whole d answer (decided.Denied rule reason) =
     answer ≡ record { verdict = Denied kinds.Data rule.0 reason; sends = [] }
 RepliesByDecision seen face whole d answer decided.NoRule =

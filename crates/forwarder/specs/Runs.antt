@@ -209,7 +209,7 @@ BringsData (NewRules rules keys t) = ⊥
 abbrev pub is_denied : Verdict → Bool
 is_denied Passed = false
 is_denied (Allowed rule status) = false
-is_denied (DataAllowed rule) = false
+is_denied (DataAllowed rule stored) = false
 is_denied (Denied kind rule reason) = true
 is_denied (NoRule kind) = true
 is_denied (Dropped reason) = false

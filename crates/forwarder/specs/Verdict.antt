@@ -34,7 +34,8 @@ pub data Verdict : Type 0 where
   Passed : Verdict
   -- a command that was allowed, with the status of the reply
   Allowed : (rule status : ℕ) → Verdict
-  DataAllowed : (rule : ℕ) → Verdict
+  -- a Data that was allowed; `stored` tells whether the repository wanted the Data, and stored it
+  DataAllowed : (rule : ℕ) (stored : Bool) → Verdict
   Denied : (kind : Kind) (rule : ℕ) (reason : Reason) → Verdict
   NoRule : (kind : Kind) → Verdict
   Dropped : (reason : DropReason) → Verdict
@@ -57,7 +58,7 @@ reason_of why.FacesFull = FacesFull
 abbrev pub verdict_of : code_verdict.Verdict → Verdict
 verdict_of said.Passed = Passed
 verdict_of (said.Allowed rule status) = Allowed rule.0 status
-verdict_of (said.DataAllowed rule) = DataAllowed rule.0
+verdict_of (said.DataAllowed rule stored) = DataAllowed rule.0 stored
 verdict_of (said.Denied kind rule reason) = Denied kind rule.0 reason
 verdict_of (said.NoRule kind) = NoRule kind
 verdict_of (said.Dropped reason) = Dropped (reason_of reason)

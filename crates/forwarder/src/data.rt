@@ -1,4 +1,4 @@
-ghost use Rattle.std.specs.Prelude.{◌≡◌, ◌≤◌, ◌++◌, true, false, All, List, length, Ok, IsOk};
+ghost use Rattle.std.specs.Prelude.{◌≡◌, ◌≤◌, ◌++◌, true, false, All, List, length, Ok, IfOk, IsOk};
 ghost use Rattle.sha2.specs.Sha256.{sha256};
 ghost use Rattle.ndn_names.specs.View.{components};
 ghost use Rattle.ndn_packets.specs.View.{plain_data};
@@ -7,6 +7,7 @@ ghost use Rattle.pit_fib.specs.Cause.{Satisfied, Follows};
 ghost use Rattle.pit_fib.specs.Records.{HoldsTheLiving, records_at};
 ghost use Rattle.pit_fib.specs.Tokens.{HaveNoTokens, IsTokenFor};
 ghost use Rattle.repo_core.specs.Repo.{IsOfferPrepared, after_offer};
+ghost use Rattle.repo_core.specs.Wants.{is_wanted};
 ghost use Rattle.forwarder.specs.Event.{Send};
 ghost use Rattle.forwarder.specs.Handling.{AwaitsPacket, HandlesPacket, data_packet, seen_by, token_of};
 ghost use Rattle.forwarder.specs.Cache.{CacheAfter, Inserts, held_from};
@@ -84,30 +85,32 @@ impl State {
         self.repo.prepare_offer(arrived.packet)?;
         out.reserve(MAX_FACES, data_room(arrived.packet, with_tokens))?;
         self.pass_time(arrived.moment);
-        self.deliver(arrived.face, arrived.packet, with_tokens, out)?;
-        Ok(Verdict::DataAllowed(rule))
+        let stored = self.deliver(arrived.face, arrived.packet, with_tokens, out)?;
+        Ok(Verdict::DataAllowed { rule, stored })
     }
 
     /// Sends an allowed Data to each face with a pending Interest for the Data, except `face`, from
     /// which the Data came. Removes all in-records and out-records of the keys that the Data
     /// answers. If at least one face had a pending Interest for the Data, offers the Data to the
     /// cache, which does not store the Data if memory runs out. Stores the Data in the repository
-    /// if the repository wants the Data. `with_tokens` must be true if some pending Interest has a
-    /// token. Never fails: memory for 64 sends and their octets is already reserved, and the offer
-    /// to the repository is prepared.
+    /// if the repository wants the Data, and returns whether it does. `with_tokens` must be true if
+    /// some pending Interest has a token. Never fails: memory for 64 sends and their octets is
+    /// already reserved, and the offer to the repository is prepared.
     fn deliver(
         &mut self,
         face: u64,
         packet: &Data<'_>,
         with_tokens: bool,
         out: &mut Sends,
-    ) -> Result<(), Memory>
+    ) -> Result<bool, Memory>
         requires tokens { with_tokens ≡ false → HaveNoTokens self.old.pit.pending }
         requires places { MAX_FACES ≤ out.old.places }
         requires space { room_for_data packet.now.whole.now with_tokens ≤ out.old.space }
         requires prepared { IsOfferPrepared self.old.repo (components packet.now.name)
             (sha256 packet.now.whole.now) packet.now.whole.now }
         ensures ok { IsOk result }
+        ensures stored { IfOk result (λ stored. stored ≡ is_wanted (components packet.now.name)
+            (sha256 packet.now.whole.now) self.old.repo.held.wants) }
         ensures sends { (sends : List Send) × (out.new.sends ≡ out.old.sends ++ sends)
             × IsSentToAskers (seen_by (state_of self.old)) face packet.now.whole.now
             (plain_data packet.now) sends }
@@ -132,8 +135,7 @@ impl State {
         if askers.len() > 0 {
             self.tables.store.put(packet, self.now);
         }
-        self.repo.offer(packet)?;
-        Ok(())
+        self.repo.offer(packet)
     }
 
     /// Sends a Data to each face with a pending Interest for the Data, except `face`, from which

@@ -1,5 +1,7 @@
-ghost use Rattle.std.specs.Prelude.{◌≡◌};
-ghost use Rattle.forwarder.specs.Event.{plain, plain_owned};
+ghost use Rattle.std.specs.Prelude.{◌≡◌, List};
+ghost use Rattle.hmac_keys.specs.KeyFile.{NamedKey};
+ghost use Rattle.info_rules.specs.Rule.{PlainRule};
+ghost use Rattle.forwarder.specs.Event.{at, moment_of, plain_by};
 
 use hmac_keys::KeyBook;
 use info_rules::Rules;
@@ -12,85 +14,83 @@ pub enum Scope {
     Far,
 }
 
+/// Rules, and the keys that they refer to.
+#[derive(Drop)]
+pub struct RulesAndKeys {
+    pub rules: Rules,
+    pub keys: KeyBook,
+}
+
 /// An event, which a node handles in one step. Moments are in milliseconds since 1970. An event may
 /// have an earlier moment than the event before it.
+///
+/// An `O` holds the octets of a packet: a slice, a vector, or their number if they are at the start
+/// of a buffer. An `R` holds new rules and keys: as they were read, or as the octets of their
+/// files.
 #[derive(Drop)]
-pub enum Event<'a> {
+pub enum Event<O: Drop, R: Drop> {
     /// Octets arrived on a face.
-    Packet {
-        face: u64,
-        now: u64,
-        octets: &'a [u8],
-    },
+    Packet { face: u64, now: u64, octets: O },
     /// A face was opened.
-    FaceUp {
-        face: u64,
-        scope: Scope,
-        now: u64,
-    },
+    FaceUp { face: u64, scope: Scope, now: u64 },
     /// A face was closed.
-    FaceDown {
-        face: u64,
-        now: u64,
-    },
+    FaceDown { face: u64, now: u64 },
     /// Time passed.
-    Tick {
-        now: u64,
-    },
+    Tick { now: u64 },
     /// These rules and keys replace those in force, from the next event on.
-    NewRules {
-        rules: Rules,
-        keys: KeyBook,
-        now: u64,
-    },
+    NewRules { rules: R, now: u64 },
 }
 
 /// An event that owns its octets.
-#[derive(Drop)]
-pub enum OwnedEvent {
-    Packet {
-        face: u64,
-        now: u64,
-        octets: Vec<u8>,
-    },
-    FaceUp {
-        face: u64,
-        scope: Scope,
-        now: u64,
-    },
-    FaceDown {
-        face: u64,
-        now: u64,
-    },
-    Tick {
-        now: u64,
-    },
-    NewRules {
-        rules: Rules,
-        keys: KeyBook,
-        now: u64,
-    },
-}
+pub type OwnedEvent = Event<Vec<u8>, RulesAndKeys>;
 
-impl OwnedEvent {
-    /// Returns the event. The octets of a packet are moved to `held`, and the returned event
-    /// borrows the octets from `held`.
-    pub fn into_event(self, held: &mut Vec<u8>) -> Event<'_>
-        ensures { plain result ≡ plain_owned self }
+impl<O: Drop, R: Drop> Event<O, R> {
+    /// Returns the moment of the event, in milliseconds since 1970.
+    pub fn moment(&self) -> u64
+        ensures { result ≡ moment_of self.now }
     {
         match self {
-            OwnedEvent::Packet { face, now, octets } => {
-                *held = octets;
-                Event::Packet {
-                    face,
-                    now,
-                    octets: held.as_slice(),
-                }
-            }
-            OwnedEvent::FaceUp { face, scope, now } => Event::FaceUp { face, scope, now },
-            OwnedEvent::FaceDown { face, now } => Event::FaceDown { face, now },
-            OwnedEvent::Tick { now } => Event::Tick { now },
-            OwnedEvent::NewRules { rules, keys, now } => Event::NewRules { rules, keys, now },
+            Event::Packet { now, .. }
+            | Event::FaceUp { now, .. }
+            | Event::FaceDown { now, .. }
+            | Event::Tick { now }
+            | Event::NewRules { now, .. } => *now,
         }
+    }
+
+    /// Returns the event with its moment replaced by `now`, in milliseconds since 1970.
+    pub fn at(self, now: u64) -> Event<O, R>
+        ensures { result ≡ at now self }
+    {
+        match self {
+            Event::Packet { face, octets, .. } => Event::Packet { face, now, octets },
+            Event::FaceUp { face, scope, .. } => Event::FaceUp { face, scope, now },
+            Event::FaceDown { face, .. } => Event::FaceDown { face, now },
+            Event::Tick { .. } => Event::Tick { now },
+            Event::NewRules { rules, .. } => Event::NewRules { rules, now },
+        }
+    }
+}
+
+/// Returns the event. The octets of a packet are moved to `held`, and the returned event borrows
+/// the octets from `held`.
+pub fn lend<R: Drop>(event: Event<Vec<u8>, R>, held: &mut Vec<u8>) -> Event<&[u8], R>
+    ensures { (rules_of : R → List PlainRule) (keys_of : R → List NamedKey)
+        → plain_by (λ o. o.now) rules_of keys_of result
+        ≡ plain_by (λ o. o.items) rules_of keys_of event }
+{
+    match event {
+        Event::Packet { face, now, octets } => {
+            *held = octets;
+            Event::Packet {
+                face,
+                now,
+                octets: held.as_slice(),
+            }
+        }
+        Event::FaceUp { face, scope, now } => Event::FaceUp { face, scope, now },
+        Event::FaceDown { face, now } => Event::FaceDown { face, now },
+        Event::Tick { now } => Event::Tick { now },
+        Event::NewRules { rules, now } => Event::NewRules { rules, now },
     }
 }

@@ -25,7 +25,7 @@ mod state;
 mod verdict;
 
 pub use denial::id_of;
-pub use event::{Event, OwnedEvent, Scope};
+pub use event::{Event, OwnedEvent, RulesAndKeys, Scope, lend};
 pub use law::{
     cached_data_were_allowed, commands_are_allowed_once, denials_name_their_rule,
     denied_events_change_nothing, each_send_is_explained, events_have_one_effect,

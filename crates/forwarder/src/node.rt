@@ -1,21 +1,19 @@
 ghost use Rattle.std.specs.Prelude.{◌≡◌, ◌++◌, List, length, drop, Err, IfOk, IfErr, IsTrue, OnErr, IsOk, MatchOption, slice_get};
 ghost use Rattle.hmac_keys.specs.KeyFile.{NamedKey};
 ghost use Rattle.info_rules.specs.Rule.{PlainRule};
-ghost use Rattle.ndn_packets.specs.FrameReading.{frame_at};
 ghost use Rattle.ndn_tlv.specs.Element.{Field};
 ghost use Rattle.content_store.specs.Store.{IsStore};
-ghost use Rattle.forwarder.specs.Event.{moment, plain, Send};
+ghost use Rattle.forwarder.specs.Event.{plain, Send};
 ghost use Rattle.forwarder.specs.Node.{AsksNoMemory, IsStep, ChangesCacheOnly};
 ghost use Rattle.forwarder.specs.Parts.{first_node, is_bad_prefix as is_bad_prefix_of, parts_fault};
 ghost use Rattle.forwarder.specs.Headline.{Headline, IsNodeRun};
-ghost use Rattle.forwarder.specs.Policy.{HasSameTables, Policy, at_moment, first_policy};
+ghost use Rattle.forwarder.specs.Policy.{HasSameTables, Policy, first_policy};
 ghost use Rattle.forwarder.specs.Runs.{Run, Start, Then, BringsKeysApart, IsRun, Stands};
 ghost use Rattle.forwarder.specs.DataSends.{BringsOctets};
 ghost use Rattle.forwarder.specs.State.{IsSound};
 ghost use Rattle.forwarder.specs.Verdict.{verdict_of};
-ghost use Rattle.forwarder.specs.Wanted.{brings_wanted, is_wanted_packet};
 
-use crate::event::{Event, Scope};
+use crate::event::{Event, RulesAndKeys, Scope};
 use crate::open_faces::OpenFaces;
 use crate::outbox::Outbox;
 use crate::state::State;
@@ -26,7 +24,6 @@ use info_rules::Rules;
 use mgmt_core::Tables;
 use ndn_names::NameBuf;
 use ndn_names::component_type::GENERIC;
-use ndn_packets::{Frame, read_frame};
 use ndn_tlv::Memory;
 use pit_fib::{Fib, Pit, StrategyTable};
 use replay_guard::Guard;
@@ -189,32 +186,6 @@ impl Node {
         self.state.has_same_tables(&other.state)
     }
 
-    /// Returns whether an event brings a Data that answers a pending insert of the repository.
-    /// Inserts that expire as time advances to the event's moment do not count.
-    pub fn wants(&self, event: &Event<'_>) -> bool
-        ensures { result ≡ brings_wanted
-            (at_moment self.now.policy (moment (plain event.now))) (plain event.now) }
-    {
-        match event {
-            Event::Packet { now, octets, .. } => self.wants_packet(*now, octets),
-            _ => false,
-        }
-    }
-
-    /// Returns whether the octets are read as a Data that answers a pending insert of the
-    /// repository. Inserts that expire as time advances to `now` do not count.
-    fn wants_packet(&self, now: u64, octets: &[u8]) -> bool
-        ensures { result ≡ is_wanted_packet (at_moment self.now.policy now) (frame_at octets.now) }
-    {
-        if !self.state.repo.has_wants() {
-            return false;
-        }
-        match read_frame(octets) {
-            Ok(Frame::Data(data)) => self.state.repo.wants(&data, self.state.now.max(now)),
-            _ => false,
-        }
-    }
-
     /// Handles one event (NFD Developer's Guide, "Forwarding"): returns the verdict, and appends
     /// the sends to the outbox.
     ///
@@ -227,7 +198,11 @@ impl Node {
     /// hold no packet, packets out of scope (`DropReason::Scope`), and Interests with HopLimit 0. A
     /// Data that the rules do not allow needs no memory, unless the first rule that applies to the
     /// Data has a hyper-relation.
-    pub fn step(&mut self, event: Event<'_>, outbox: &mut Outbox) -> Result<Verdict, Memory>
+    pub fn step(
+        &mut self,
+        event: Event<&[u8], RulesAndKeys>,
+        outbox: &mut Outbox,
+    ) -> Result<Verdict, Memory>
         // One step, from received octets to sent octets.
         ensures answered { IfOk result
             (λ verdict. (sends : List Send) × (outbox.new ≡ outbox.old ++ sends)
@@ -272,8 +247,8 @@ impl Node {
                 self.state.pass_time(now);
                 Ok(Verdict::Passed)
             }
-            Event::NewRules { rules, keys, now } => {
-                Ok(self.state.replace_rules(rules, keys, now))
+            Event::NewRules { rules, now } => {
+                Ok(self.state.replace_rules(rules.rules, rules.keys, now))
             }
         }
     }

@@ -9,8 +9,9 @@ pub enum Verdict {
     /// This rule allowed the command, which was answered with this status (NFD Management, "Control
     /// Response").
     Allowed(RuleNo, u16),
-    /// This rule allowed the Data, whether it was sent on or not.
-    DataAllowed(RuleNo),
+    /// This rule allowed the Data, whether it was sent on or not. `stored` tells whether the Data
+    /// answered a pending insert of the repository, which then stored the Data.
+    DataAllowed { rule: RuleNo, stored: bool },
     /// The command or Data was denied for this reason. This rule is the first rule that applies. If
     /// the reason is `Replay`, this rule allows the command, but the command was not fresh.
     Denied(Kind, RuleNo, Reason),

@@ -1,5 +1,4 @@
 pub mod Journal
-pub mod Line
 pub mod Journalled
 pub mod Text
 pub mod Appending

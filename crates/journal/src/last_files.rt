@@ -4,8 +4,8 @@ ghost use Rattle.std.specs.String.{string_bytes};
 ghost use Rattle.node_core.specs.Script.Line.{Lacks};
 ghost use Rattle.journal.specs.LastFiles.{HasLastFiles, HasNoFiles, IsRulesLine, files_text};
 
-use crate::line::hex_word;
 use crate::replaying::{ReplayFault, read_line, whole_line};
+use node_core::hex_word;
 use std::alloc::{AllocError, Global};
 use std::io::BufRead;
 

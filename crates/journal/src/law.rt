@@ -6,7 +6,6 @@ ghost use Rattle.forwarder.specs.Policy.{Policy, at_moment, with_rules};
 ghost use Rattle.forwarder.specs.Effects.{IsAfter};
 ghost use Rattle.forwarder.specs.Node.{NodeState, IsStep};
 ghost use Rattle.forwarder.specs.Verdict.{Answer, Verdict};
-ghost use Rattle.forwarder.specs.Wanted.{brings_wanted};
 ghost use Rattle.forwarder.specs.Runs.{Run, Then, IsPolicyOf, KeysAreApart, Stands};
 ghost use Rattle.node_core.specs.Script.{IsScriptSoFar};
 ghost use Rattle.journal.specs.Journalled.{is_journalled_by};
@@ -25,13 +24,11 @@ pub fn other_events_bring_their_moments()
         → new ≡ at_moment old (moment event) }
 {}
 
-/// Law: whether a step journals its event depends only on the kind of the event, on the verdict,
-/// and on whether the event brings a Data that the repository wants at the event's time.
+/// Law: whether a step journals its event depends only on the kind of the event and on the verdict.
 pub fn verdicts_say_what_is_journalled()
     ensures { (old new : NodeState) (event : PlainEvent) (answer : Answer)
-        → IsStep old event answer new → let p = at_moment old.policy (moment event) in
-        IsJournalled old.policy event
-        (is_journalled_by event (brings_wanted p event) answer.verdict) }
+        → IsStep old event answer new
+        → IsJournalled old.policy event (is_journalled_by event answer.verdict) }
 {}
 
 /// Law: if a node agrees (`Stands`) with a run, and the event of the node's next step is
@@ -44,7 +41,7 @@ pub fn journals_grow_by_steps()
         → IsStep old event answer new → IsJournalOf first past journal
         → let p = at_moment old.policy (moment event) in
         IsJournalOf first (Then past event answer)
-        (with_event (is_journalled_by event (brings_wanted p event) answer.verdict)
+        (with_event (is_journalled_by event answer.verdict)
         (with_moment p.now event) journal) }
     ensures text { (journal added : List PlainEvent) (text more : List ℕ) → IsTextOf journal text
         → IsTextOf added more → IsTextOf (journal ++ added) (text ++ more) }
@@ -53,8 +50,7 @@ pub fn journals_grow_by_steps()
     ensures both { (first : Policy) (past : Run) (old new : NodeState) (event : PlainEvent)
         (verdict : Verdict) (sends : List Send) (journal : List PlainEvent) (text added : List ℕ)
         → Stands first past old → IsJournalOf first past journal → IsTextOf journal text
-        → let wanted = brings_wanted (at_moment old.policy (moment event)) event in
-        Steps old event wanted verdict sends new added
+        → Steps old event verdict sends new added
         → (longer : List PlainEvent)
         × IsJournalOf first
         (Then past event (record { verdict = verdict; sends = sends })) longer

@@ -6,10 +6,9 @@ mod append;
 mod file;
 mod last_files;
 mod law;
-mod line;
 mod replaying;
 
-pub use append::{AppendFault, Coming, append_event};
+pub use append::{AppendFault, append_event};
 pub use file::{FileFault, JournalFile};
 pub use last_files::{are_last_rules, last_rules};
 pub use law::{
@@ -18,5 +17,4 @@ pub use law::{
     other_events_bring_their_moments, rules_at_the_start_are_the_first,
     verdicts_say_what_is_journalled,
 };
-pub use line::{Entry, LineFault, line_of};
 pub use replaying::{ReplayFault, Replayed, replay};

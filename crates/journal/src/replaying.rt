@@ -6,7 +6,7 @@ ghost use Rattle.node_core.specs.Script.{ended};
 ghost use Rattle.node_core.specs.Script.Line.{Lacks};
 ghost use Rattle.journal.specs.Replay.{IsReadFault, PlaysLine, Replays, RestoresRuns, StopsLine, StopsReplay};
 
-use forwarder::{Node, Outbox};
+use forwarder::{Node, Outbox, lend};
 use node_core::{Line, line_of};
 use std::alloc::Global;
 use std::io::{BufRead, ErrorKind, Read};
@@ -126,7 +126,7 @@ fn play_line(
     };
     outbox.clear();
     let mut held = Vec::new(alloc);
-    match node.step(event.into_event(&mut held), outbox) {
+    match node.step(lend(event, &mut held), outbox) {
         Ok(_) => Ok(true),
         Err(_) => Err(ReplayFault::Memory),
     }

@@ -2,12 +2,12 @@
 use Rattle.std.specs.Prelude.{◌≡◌, ℕ, ◌⊎◌, Bool, true, false, List, [], ◌∷◌, ◌++◌}
 use Rattle.node_core.specs.Script.{ended}
 use Rattle.node_core.specs.Script.Line.{Lacks}
-use Rattle.journal.specs.Line.{entry_text}
-use Rattle.journal.specs.declared.line.Entry.TheVariants as entry
+use Rattle.forwarder.specs.declared.event.Event.TheVariants as code
+use Rattle.node_core.specs.Script.LineWriter.{event_text}
 
 -- the line `tick` with the time `moment`, followed by an LF
 abbrev pub tick_text : ℕ → List ℕ
-tick_text moment = entry_text moment entry.Tick
+tick_text moment = event_text (code.Tick moment)
 
 -- the line followed by an LF if the flag is true, otherwise nothing
 abbrev pub kept_line : Bool → List ℕ → List ℕ

@@ -5,10 +5,9 @@ use crate::fault::ShortenFault;
 use crate::playing::{Desk, survey_lines};
 use crate::reach::Reach;
 use crate::survey::Survey;
-use forwarder::Node;
-use journal::{Entry, line_of};
+use forwarder::{Event, Node};
 use ndn_tlv::Memory;
-use node_core::cut_line;
+use node_core::{cut_line, event_line};
 use std::alloc::Global;
 
 /// The lines that a shorter journal keeps, and the time in its line `tick`.
@@ -70,7 +69,7 @@ pub fn put_needed(out: &mut Vec<u8>, journal: &[u8], needed: &Needed) -> Result<
 fn put_tick(text: &mut Vec<u8>, moment: u64) -> Result<(), Memory>
     ensures { OnOk result (text.new.items ≡ text.old.items ++ tick_text moment) }
 {
-    let Ok(tick) = line_of(*text.allocator(), moment, &Entry::Tick) else {
+    let Ok(tick) = event_line(*text.allocator(), &Event::Tick { now: moment }) else {
         return Err(Memory);
     };
     text.extend_from_slice(tick.as_bytes())?;

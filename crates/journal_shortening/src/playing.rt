@@ -1,6 +1,6 @@
 use crate::fault::ShortenFault;
 use crate::survey::Survey;
-use forwarder::{Event, Node, Outbox, OwnedEvent, Verdict};
+use forwarder::{Event, Node, Outbox, OwnedEvent, RulesAndKeys, Verdict, lend};
 use node_core::{Line, cut_line, line_of};
 use std::alloc::Global;
 
@@ -54,21 +54,20 @@ impl Desk {
 /// answered.
 fn change_of(event: &OwnedEvent) -> Change {
     match event {
-        OwnedEvent::Packet { face, .. } => Change::Stored(*face),
-        OwnedEvent::FaceUp { face, .. } => Change::Up(*face),
-        OwnedEvent::FaceDown { face, .. } => Change::Down(*face),
-        OwnedEvent::Tick { .. } => Change::Nothing,
-        OwnedEvent::NewRules { .. } => Change::Rules,
+        Event::Packet { face, .. } => Change::Stored(*face),
+        Event::FaceUp { face, .. } => Change::Up(*face),
+        Event::FaceDown { face, .. } => Change::Down(*face),
+        Event::Tick { .. } => Change::Nothing,
+        Event::NewRules { .. } => Change::Rules,
     }
 }
 
 /// Returns what an event with this verdict changed. `change` is what the event changes if it takes
-/// effect, as `change_of` returns it. `is_wanted` is true if the event brings a Data that the
-/// repository wants.
-fn change_by(change: Change, verdict: Verdict, is_wanted: bool) -> Change {
+/// effect, as `change_of` returns it.
+fn change_by(change: Change, verdict: Verdict) -> Change {
     match (change, verdict) {
         (Change::Stored(face), Verdict::Allowed(_, status)) => Change::Command(face, status),
-        (Change::Stored(face), Verdict::DataAllowed(_)) if is_wanted => Change::Stored(face),
+        (Change::Stored(face), Verdict::DataAllowed { stored: true, .. }) => Change::Stored(face),
         (Change::Stored(_), _) => Change::NotJournalled,
         (change, Verdict::Passed) => change,
         _ => Change::Nothing,
@@ -135,7 +134,7 @@ fn play_event(
 ) -> Result<Option<Seen>, ShortenFault> {
     desk.outbox.clear();
     let change = change_of(&event);
-    let event = event.into_event(&mut desk.octets);
+    let event = lend(event, &mut desk.octets);
     step(node, event, change, &mut desk.outbox)
 }
 
@@ -143,14 +142,13 @@ fn play_event(
 /// changes if it takes effect.
 fn step(
     node: &mut Node,
-    event: Event<'_>,
+    event: Event<&[u8], RulesAndKeys>,
     change: Change,
     outbox: &mut Outbox,
 ) -> Result<Option<Seen>, ShortenFault> {
-    let is_wanted = node.wants(&event);
     match node.step(event, outbox) {
         Ok(verdict) => Ok(Some(Seen {
-            change: change_by(change, verdict, is_wanted),
+            change: change_by(change, verdict),
             now: node.now(),
         })),
         Err(_) => Err(ShortenFault::Memory),

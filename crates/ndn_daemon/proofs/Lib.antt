@@ -6,3 +6,4 @@ pub mod Telling
 pub mod Watching
 pub mod Restarting
 pub mod Gathered
+pub mod Logging

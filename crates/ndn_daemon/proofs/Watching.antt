@@ -1,35 +1,24 @@
 -- Steps of ports with a source of new rules and keys.
 use Rattle.std.proofs.Common.{◌≡◌, ℕ, List, [], ◌∷◌, ◌++◌, refl, sym, subst}
 use Rattle.std.specs.Prelude.{Bool, true, false, Option, Some, None}
-use Rattle.forwarder.specs.Event.{PlainEvent, moment}
+use Rattle.forwarder.specs.declared.event.Event.TheVariants as code
+use Rattle.forwarder.specs.Event.{PlainEvent, moment, moment_of}
 use Rattle.node_ports.specs.Laws.{restarted_goes_on}
-use Rattle.node_ports.specs.Ports.{arrived, cut_to, moment_of}
+use Rattle.node_ports.specs.Ports.{Arrival, arrived, cut_to}
 use Rattle.node_ports.specs.Renewal.{RenewalValue}
 use Rattle.node_ports.specs.Restarted.{DoesRestarted, AreDoneRestarted}
-use Rattle.node_ports.specs.Step.{PortStep, Got, Ended, FailedNext, Wrote, FailedWrite, Gave, FailedSend, line_steps, step_of}
-use Rattle.node_ports.specs.declared.ports.Arrival.{Arrival}
-use Rattle.node_ports.specs.declared.ports.Arrival.TheVariants as code
+use Rattle.node_ports.specs.Step.{PortStep, Got, Ended, FailedNext, Wrote, FailedWrite, Gave, FailedSend, line_steps}
 use Rattle.node_ports.proofs.Wrapped.{IsOther}
 use Rattle.ndn_daemon.specs.Watched.{IsRenewed, AreDoneWatched}
 use Rattle.ndn_daemon.specs.WatchedLaws.{watched_goes_on}
 
--- `End` has no time and no event
-pub no_moment : (arrival : Arrival) (buffer : List ℕ) → moment_of arrival ≡ None → arrived arrival buffer ≡ None
-no_moment code.End buffer h = refl
-no_moment (code.Packet face now len) buffer h = absurd cc
-no_moment (code.FaceUp face scope now) buffer h = absurd cc
-no_moment (code.FaceDown face now) buffer h = absurd cc
-no_moment (code.Tick now) buffer h = absurd cc
-no_moment (code.NewRules renewal now) buffer h = absurd cc
-
--- an arrival with a time has an event with this time
-pub dated : (arrival : Arrival) (buffer : List ℕ) (now : ℕ) → moment_of arrival ≡ Some now → (event : PlainEvent) × (arrived arrival buffer ≡ Some event) × (moment event ≡ now)
-dated code.End buffer now h = absurd cc
-dated (code.Packet face at len) buffer now h = (_, refl, cc h)
-dated (code.FaceUp face scope at) buffer now h = (_, refl, cc h)
-dated (code.FaceDown face at) buffer now h = (_, refl, cc h)
-dated (code.Tick at) buffer now h = (_, refl, cc h)
-dated (code.NewRules renewal at) buffer now h = (_, refl, cc h)
+-- an arrival has the moment of its event
+pub dated : (arrival : Arrival) (buffer : List ℕ) → moment (arrived arrival buffer) ≡ moment_of arrival
+dated (code.Packet face now len) buffer = refl
+dated (code.FaceUp face scope now) buffer = refl
+dated (code.FaceDown face now) buffer = refl
+dated (code.Tick now) buffer = refl
+dated (code.NewRules renewal now) buffer = refl
 
 module _ {P S : Type 0} (does : P → List PortStep → P → Type 0) (renews : S → List RenewalValue → S → Type 0) where
   -- a step that is no arrival is done by the underlying ports
@@ -56,26 +45,24 @@ module _ {P S : Type 0} (does : P → List PortStep → P → Type 0) (renews : 
   watched_line p q s held false line rests quiet h = (h, quiet, refl)
 
   -- the event that was kept arrives
-  pub watched_held : (p : P) (s : S) (held holds : Option PlainEvent) (event : PlainEvent) (room : ℕ) (given : Option PlainEvent) → does p [] p → renews s [] s → held ≡ Some event
-      → given ≡ Some (cut_to room event) → holds ≡ None → AreDoneWatched does renews p s held (step_of room given ∷ []) p s holds
+  pub watched_held : (p : P) (s : S) (held holds : Option PlainEvent) (event : PlainEvent) (room : ℕ) (given : PlainEvent) → does p [] p → renews s [] s → held ≡ Some event
+      → given ≡ cut_to room event → holds ≡ None → AreDoneWatched does renews p s held (Got room given ∷ []) p s holds
   watched_held p s held holds event room given rests quiet was comes is =
-      subst (λ (h : Option PlainEvent). AreDoneWatched does renews p s h (step_of room given ∷ []) p s holds) (sym was)
-      (subst (λ (e : Option PlainEvent). AreDoneWatched does renews p s (Some event) (step_of room e ∷ []) p s holds) (sym comes)
-      (subst (λ (h : Option PlainEvent). AreDoneWatched does renews p s (Some event) (Got room (cut_to room event) ∷ []) p s h) (sym is) (p, s, None, (rests, quiet, refl, refl), (rests, quiet, refl))))
+      subst (λ (h : Option PlainEvent). AreDoneWatched does renews p s h (Got room given ∷ []) p s holds) (sym was)
+      (subst (λ (h : Option PlainEvent). AreDoneWatched does renews p s (Some event) (Got room given ∷ []) p s h) (sym is) (p, s, None, (rests, quiet, comes, refl), (rests, quiet, refl)))
 
   -- what is given for an arrival of the underlying ports
-  pub watched_given : (p q : P) (s t : S) (held holds : Option PlainEvent) (room : ℕ) (came given : Option PlainEvent) → does q [] q → renews t [] t → held ≡ None → does p (step_of room came ∷ []) q
-      → (came ≡ None → (given ≡ None) × renews s [] t × (holds ≡ None))
-      → ((event : PlainEvent) → came ≡ Some event → (shown : PlainEvent) × (given ≡ Some shown) × IsRenewed renews s event shown t holds)
-      → AreDoneWatched does renews p s held (step_of room given ∷ []) q t holds
-  watched_given p q s t held holds room None given rests quiet was h ended renewed =
-      let e = ended refl in
-      subst (λ (o : Option PlainEvent). AreDoneWatched does renews p s o (step_of room given ∷ []) q t holds) (sym was)
-      (subst (λ (o : Option PlainEvent). AreDoneWatched does renews p s None (step_of room o ∷ []) q t holds) (sym e.0) (q, t, holds, (h, e.1, e.2), (rests, quiet, refl)))
-  watched_given p q s t held holds room (Some event) given rests quiet was h ended renewed =
-      let r = renewed event refl in
-      subst (λ (o : Option PlainEvent). AreDoneWatched does renews p s o (step_of room given ∷ []) q t holds) (sym was)
-      (subst (λ (o : Option PlainEvent). AreDoneWatched does renews p s None (step_of room o ∷ []) q t holds) (sym r.1) (q, t, holds, (event, h, r.2), (rests, quiet, refl)))
+  pub watched_given : (p q : P) (s t : S) (held holds : Option PlainEvent) (room : ℕ) (came given : PlainEvent) → does q [] q → renews t [] t → held ≡ None → does p (Got room came ∷ []) q
+      → IsRenewed renews s came given t holds → AreDoneWatched does renews p s held (Got room given ∷ []) q t holds
+  watched_given p q s t held holds room came given rests quiet was h renewed =
+      subst (λ (o : Option PlainEvent). AreDoneWatched does renews p s o (Got room given ∷ []) q t holds) (sym was) (q, t, holds, (came, h, renewed), (rests, quiet, refl))
+
+  -- the underlying ports have no more arrivals
+  pub watched_ended : (p q : P) (s : S) (held holds : Option PlainEvent) → does q [] q → renews s [] s → held ≡ None → holds ≡ None → does p (Ended ∷ []) q
+      → AreDoneWatched does renews p s held (Ended ∷ []) q s holds
+  watched_ended p q s held holds rests quiet was is h =
+      subst (λ (o : Option PlainEvent). AreDoneWatched does renews p s o (Ended ∷ []) q s holds) (sym was)
+      (subst (λ (o : Option PlainEvent). AreDoneWatched does renews p s None (Ended ∷ []) q s o) (sym is) (q, s, None, (h, quiet, refl), (rests, quiet, refl)))
 
   -- the call of the underlying ports failed
   pub watched_failed : (p q : P) (s : S) (held holds : Option PlainEvent) → does q [] q → renews s [] s → held ≡ None → holds ≡ None → does p (FailedNext ∷ []) q

@@ -1,29 +1,33 @@
 -- The lines of a log.
-use Rattle.std.specs.Prelude.{◌≡◌, ◌<◌, ◌⊎◌, ℕ, List, Bool, true, false, Option, None, Some, Result, not, ◌&&◌}
+use Rattle.std.specs.Prelude.{◌≡◌, ◌<◌, ◌≤◌, ◌⊎◌, ℕ, List, [], ◌++◌, Bool, true, false, Option, None, Some, Result, not, ◌&&◌}
+use Rattle.std.specs.Io.KnownBytes.{Appends}
 use Rattle.ndn_tlv.specs.declared.memory.Memory.{Memory}
 use Rattle.forwarder.specs.declared.verdict.Verdict.{Verdict}
 use Rattle.node_ports.specs.Step.{one_more}
-use Rattle.ndn_log.specs.Entry.{is_plain, refused_on}
+use Rattle.forwarder.specs.declared.event.Event.TheVariants.{FaceDown}
+use Rattle.forwarder.specs.Event.{moment_of}
+use Rattle.ndn_log.specs.Entry.{LoggedEvent, is_plain, refused_on}
 use Rattle.ndn_log.specs.Limits.{LimitsState, begun, is_over, is_shown, limits_after}
 use Rattle.ndn_log.specs.Line.{AreLogged, IsLogged}
 use Rattle.ndn_log.specs.Notes.{left_out_texts}
-use Rattle.ndn_log.specs.declared.entry.Came.{Came}
-use Rattle.ndn_log.specs.declared.entry.Came.TheVariants.{Closed}
 
 -- whether an event is left out of the log: a plain event is left out, unless all events are shown
-abbrev pub is_left_out : Bool → Came → Result Verdict Memory → Bool
-is_left_out shows_all came outcome = not shows_all && is_plain came outcome
+abbrev pub is_left_out : Bool → LoggedEvent → Result Verdict Memory → Bool
+is_left_out shows_all event outcome = not shows_all && is_plain event outcome
 
--- either a line with this time and these words was appended, or nothing was appended
-abbrev pub MayLog : List ℕ → List ℕ → ℕ → List ℕ → Type 0
-MayLog old new moment words = IsLogged old new moment words ⊎ (new ≡ old)
+-- What became of a line with this time and these words. Either it was appended, or memory ran out
+-- for it, and it is counted: `lost` is the count before, and `loses` the count afterwards.
+abbrev pub LogsOrLoses : List ℕ → List ℕ → ℕ → List ℕ → ℕ → ℕ → Type 0
+LogsOrLoses old new moment words lost loses =
+    (IsLogged old new moment words × (loses ≡ lost))
+    ⊎ ((new ≡ old) × (loses ≡ one_more lost))
 
 -- The number, after this event, of closed faces whose closing the log left out and has not yet
 -- reported. `count` is this number before the event. If `left_out` is true, the log leaves out the
 -- event.
-abbrev pub closed_with : Bool → Came → ℕ → ℕ
-closed_with true (Closed face) count = one_more count
-closed_with left_out came count = count
+abbrev pub closed_with : Bool → LoggedEvent → ℕ → ℕ
+closed_with true (FaceDown face now) count = one_more count
+closed_with left_out event count = count
 
 -- One of two cases is true. In the first case, the count was not 0, a line with these words was
 -- appended, and the count is 0 afterwards. In the second case, nothing was appended, and the count
@@ -35,9 +39,9 @@ SaysCount old new moment words count left =
 -- The face of an event whose line is limited, or None if its line is not limited. The line of a
 -- packet that was denied or dropped, or of a face that could not open, is limited, unless all
 -- events are shown.
-abbrev pub limited_event : Bool → Came → Result Verdict Memory → Option ℕ
-limited_event true came outcome = None
-limited_event false came outcome = refused_on came outcome
+abbrev pub limited_event : Bool → LoggedEvent → Result Verdict Memory → Option ℕ
+limited_event true event outcome = None
+limited_event false event outcome = refused_on event outcome
 
 -- the face of a failed send whose line is limited, or None if all events are shown
 abbrev pub limited_send : Bool → ℕ → Option ℕ
@@ -68,3 +72,33 @@ TellsLeftOut old new moment limits after =
 pub record Begins (old new : List ℕ) (moment : ℕ) (limits after : LimitsState) : Type 0 where
   pub over : is_over limits moment ≡ true → TellsLeftOut old new moment limits after
   pub present : is_over limits moment ≡ false → (new ≡ old) × (after ≡ limits)
+
+-- whether the line of an event is shown: the event is not left out, nor do the limits leave out its
+-- line
+abbrev pub shows : Bool → LimitsState → LoggedEvent → Result Verdict Memory → Bool
+shows shows_all limits event outcome =
+    not (is_left_out shows_all event outcome)
+    && not (is_held limits (moment_of event) (limited_event shows_all event outcome))
+
+-- the lines that were given to the sink, if they are known, and then the buffered lines
+abbrev pub so_far : Option (List ℕ) → List ℕ → Option (List ℕ)
+so_far None text = None
+so_far (Some given) text = Some (given ++ text)
+
+-- An event with this outcome was noted in a log. `told`: lines that tell what the limits left out,
+-- if the event begins another second. `line`: the line of the event with these words, if it is
+-- shown; if memory runs out for it, it is counted as lost. `more`: lines of failed sends, and
+-- counts. The log had the buffered lines `text`, these limits, this count of lost lines, and all
+-- lines in `had`; afterwards it has all lines in `has`, and the count is `loses`.
+pub record NotesEvent (shows_all : Bool) (text : List ℕ) (limits : LimitsState) (lost loses : ℕ)
+    (had has : Option (List ℕ)) (event : LoggedEvent) (outcome : Result Verdict Memory)
+    (words : List ℕ) : Type 0 where
+  pub told : List ℕ
+  pub line : List ℕ
+  pub more : List ℕ
+  pub began : LimitsState
+  pub begins : Begins text (text ++ told) (moment_of event) limits began
+  pub shown : shows shows_all began event outcome ≡ true
+      → IsLogged [] line (moment_of event) words ⊎ ((line ≡ []) × (one_more lost ≤ loses))
+  pub hidden : shows shows_all began event outcome ≡ false → line ≡ []
+  pub appended : Appends had has (told ++ (line ++ more))

@@ -1,41 +1,47 @@
 -- What a log shows of an arrival and of its outcome.
-use Rattle.std.specs.Prelude.{◌≡◌, ℕ, List, take, Option, None, Some, Result, Ok, Err}
+use Rattle.std.specs.Prelude.{◌≡◌, ℕ, Bool, List, take, Option, None, Some, Result, Ok, Err}
 use Rattle.ndn_tlv.specs.declared.memory.Memory.{Memory}
 use Rattle.forwarder.specs.declared.verdict.Verdict.{Verdict}
-use Rattle.node_ports.specs.declared.ports.Arrival.{Arrival}
-use Rattle.node_ports.specs.declared.ports.Arrival.TheVariants as arrival
+use Rattle.forwarder.specs.declared.event.Event.{Event}
+use Rattle.forwarder.specs.declared.event.Event.TheVariants.{Packet, FaceUp, FaceDown, Tick, NewRules}
+use Rattle.node_ports.specs.Ports.{Arrival}
 use Rattle.node_ports.specs.declared.serving.Turn.{Turn}
 use Rattle.node_ports.specs.declared.serving.Turn.TheVariants.{Done, Refused, Unwritten, End}
-use Rattle.ndn_log.specs.declared.entry.Came.{Came}
-use Rattle.ndn_log.specs.declared.entry.Came.TheVariants as came
-use Rattle.ndn_daemon.specs.declared.logged_ports.Seen.{Seen}
-use Rattle.ndn_daemon.specs.declared.logged_ports.Seen.TheVariants.{Packet, Opened, Closed, Tick, NewRules}
+use Rattle.std.specs.declared.net.socket_addr.SocketAddr.{SocketAddr}
+use Rattle.info_rules.specs.Rule.{PlainRule}
+use Rattle.ndn_log.specs.Entry.{LoggedEvent}
+use Rattle.ndn_log.specs.Event.{event_words}
+use Rattle.ndn_log.specs.Limits.{LimitsState}
+use Rattle.ndn_daemon.specs.EventLog.{NotesEvent}
 
-abbrev pub seen_in : Arrival → Option Seen
-seen_in arrival.End = None
-seen_in (arrival.Packet face now len) = Some (Packet face len)
-seen_in (arrival.FaceUp face scope now) = Some (Opened face scope)
-seen_in (arrival.FaceDown face now) = Some (Closed face)
-seen_in (arrival.Tick now) = Some Tick
-seen_in (arrival.NewRules renewal now) = Some NewRules
+-- an arrival without new rules and keys
+abbrev pub Seen : Type 0
+Seen = Event ℕ (Unit {0})
+
+abbrev pub seen_in : Arrival → Seen
+seen_in (Packet face now len) = Packet face now len
+seen_in (FaceUp face scope now) = FaceUp face scope now
+seen_in (FaceDown face now) = FaceDown face now
+seen_in (Tick now) = Tick now
+seen_in (NewRules renewal now) = NewRules tt now
 
 -- `shown` is the arrival `seen`; the octets of a packet are the first `len` octets of the buffer,
 -- or all octets of the buffer if it has fewer than `len` octets
-abbrev pub IsCameOf : Seen → List ℕ → Came → Type 0
-IsCameOf (Packet face len) buffer (came.Packet f octets) =
-    (f ≡ face) × (octets.now ≡ take len buffer)
-IsCameOf (Opened face scope) buffer shown = shown ≡ came.Opened face scope
-IsCameOf (Closed face) buffer shown = shown ≡ came.Closed face
-IsCameOf Tick buffer shown = shown ≡ came.Tick
-IsCameOf NewRules buffer shown = shown ≡ came.NewRules
-IsCameOf seen buffer shown = ⊥
+abbrev pub IsLoggedOf : Seen → List ℕ → LoggedEvent → Type 0
+IsLoggedOf (Packet face now len) buffer (Packet f t octets) =
+    (f ≡ face) × (t ≡ now) × (octets.now ≡ take len buffer)
+IsLoggedOf (FaceUp face scope now) buffer shown = shown ≡ FaceUp face scope now
+IsLoggedOf (FaceDown face now) buffer shown = shown ≡ FaceDown face now
+IsLoggedOf (Tick now) buffer shown = shown ≡ Tick now
+IsLoggedOf (NewRules rules now) buffer shown = shown ≡ NewRules rules now
+IsLoggedOf seen buffer shown = ⊥
 
-abbrev pub face_of : Came → Option ℕ
-face_of (came.Packet face octets) = Some face
-face_of (came.Opened face scope) = Some face
-face_of (came.Closed face) = Some face
-face_of came.Tick = None
-face_of came.NewRules = None
+abbrev pub face_of : LoggedEvent → Option ℕ
+face_of (Packet face now octets) = Some face
+face_of (FaceUp face scope now) = Some face
+face_of (FaceDown face now) = Some face
+face_of (Tick now) = None
+face_of (NewRules rules now) = None
 
 -- the outcome of an event, or `None` if the ports ended or the event could not be journalled
 abbrev pub IsOutcomeOf : Turn → Option (Result Verdict Memory) → Type 0
@@ -43,3 +49,21 @@ IsOutcomeOf (Done verdict failed) outcome = outcome ≡ Some (Ok verdict)
 IsOutcomeOf Refused outcome = (refused : Memory) × (outcome ≡ Some (Err refused))
 IsOutcomeOf Unwritten outcome = outcome ≡ None
 IsOutcomeOf End outcome = outcome ≡ None
+
+-- An event was noted if it had an outcome (`NotesEvent`), with some endpoint of its face. Otherwise
+-- the log is as before.
+abbrev pub NotesOutcome : Seen → List ℕ → List PlainRule → Bool → List ℕ → LimitsState → ℕ → ℕ
+    → Option (List ℕ) → Option (List ℕ) → Option (Result Verdict Memory) → Type 0
+NotesOutcome seen octets rules shows_all text limits lost loses had has None =
+    (has ≡ had) × (loses ≡ lost)
+NotesOutcome seen octets rules shows_all text limits lost loses had has (Some outcome) =
+    (event : LoggedEvent) × (endpoint : Option SocketAddr) × IsLoggedOf seen octets event
+    × NotesEvent shows_all text limits lost loses had has event outcome
+    (event_words rules (record { endpoint = endpoint; event = event }) outcome)
+
+-- what a log has after a turn (`NotesOutcome`)
+abbrev pub NotesTurn : Seen → Turn → List ℕ → List PlainRule → Bool → List ℕ → LimitsState → ℕ
+    → ℕ → Option (List ℕ) → Option (List ℕ) → Type 0
+NotesTurn seen turn octets rules shows_all text limits lost loses had has =
+    (outcome : Option (Result Verdict Memory)) × IsOutcomeOf turn outcome
+    × NotesOutcome seen octets rules shows_all text limits lost loses had has outcome

@@ -1,19 +1,20 @@
 //! The log of a node on a port: the lines of the log, and where these lines are written.
-ghost use Rattle.std.specs.Prelude.{◌≡◌, ◌↔◌, ◌++◌, ◌-◌, ◌⊎◌, ℕ, List, [], Option, None, true, IsTrue};
+ghost use Rattle.std.specs.Prelude.{◌≡◌, ◌↔◌, ◌++◌, ◌-◌, ◌⊎◌, ℕ, List, [], Option, None, true, false, IsTrue};
 ghost use Rattle.std.specs.Io.KnownBytes.{Appends};
+ghost use Rattle.forwarder.specs.Event.{moment_of};
 ghost use Rattle.node_ports.specs.Step.{one_more};
 ghost use Rattle.ndn_log.specs.Event.{event_words};
-ghost use Rattle.ndn_log.specs.Notes.{closed_words, failed_send_words, stranger_words};
+ghost use Rattle.ndn_log.specs.Notes.{closed_words, failed_send_words, lost_words, stranger_words};
 ghost use Rattle.ndn_log.specs.Limits.{LimitsState, begun};
-ghost use Rattle.ndn_daemon.specs.EventLog.{Begins, MayLog, SaysCount, TellsLeftOut, closed_with, is_held, is_left_out, limited_event, limited_send, limits_with};
+ghost use Rattle.ndn_daemon.specs.EventLog.{Begins, LogsOrLoses, NotesEvent, SaysCount, TellsLeftOut, closed_with, is_held, is_left_out, limited_event, limited_send, limits_with, shows, so_far};
 
 use info_rules::Rules;
 use ndn_log::{
-    Came, Entry, LineLimits, is_plain, put_closed, put_event, put_failed_send, put_left_out,
-    put_strangers, refused_on,
+    Entry, LineLimits, LoggedEvent, is_plain, put_closed, put_event, put_failed_send, put_left_out,
+    put_lost, put_strangers, refused_on,
 };
 use ndn_tlv::Memory;
-use node_core::Verdict;
+use node_core::{Event, Verdict};
 use std::alloc::Global;
 use std::net::SocketAddr;
 
@@ -63,8 +64,8 @@ impl<'a, R: Eprint> LogSink for StandardError<'a, R> {
     }
 }
 
-/// A log: the lines that are not yet written, and the counts that are not yet reported. A line is
-/// left out if memory runs out for it.
+/// A log: the lines that are not yet written, and the counts that are not yet reported. If memory
+/// runs out for a line, the line is lost, and counted.
 #[derive(Drop)]
 pub struct EventLog<S: LogSink> {
     alloc: Global,
@@ -83,6 +84,9 @@ pub struct EventLog<S: LogSink> {
     strangers: u64,
     // The time of the last report of a count, or 0 if no count was reported yet.
     counted: u64,
+    // How many times lines were lost because memory ran out, and this number as last reported.
+    lost: u64,
+    told: u64,
     // How many lines about denied and dropped packets and failed sends were shown and left out in
     // one second.
     limits: LineLimits,
@@ -97,7 +101,7 @@ impl<S: LogSink> EventLog<S> {
         ensures later { result.later.items ≡ [] }
         ensures shows_all { result.shows_all ≡ shows_all }
         ensures sink { result.sink ≡ sink }
-        ensures counts { (result.closed ≡ 0) × (result.strangers ≡ 0) }
+        ensures counts { (result.closed ≡ 0) × (result.strangers ≡ 0) × (result.lost ≡ 0) }
         ensures limits { result.limits ≡ begun 0 }
     {
         EventLog {
@@ -110,6 +114,8 @@ impl<S: LogSink> EventLog<S> {
             closed: 0,
             strangers: 0,
             counted: 0,
+            lost: 0,
+            told: 0,
             limits: LineLimits::new(),
         }
     }
@@ -128,44 +134,72 @@ impl<S: LogSink> EventLog<S> {
         self.text.is_empty()
     }
 
-    /// Appends the line of an event, if the log shows the event. If the log leaves out the closing
-    /// of a face, the face is counted. If the limits leave out the line of a denied or dropped
-    /// packet, the line is counted. Call `begin` with the time of the event before: a limited line
-    /// whose second has not begun is left out.
-    pub fn put_event(&mut self, entry: &Entry<'_>, outcome: &Result<Verdict, Memory>, rules: &Rules)
-        ensures left_out { is_left_out self.old.shows_all entry.now.came outcome.now ≡ true
-            → self.new.text.items ≡ self.old.text.items }
-        ensures held { is_held self.old.limits entry.now.moment
-            (limited_event self.old.shows_all entry.now.came outcome.now) ≡ true
-            → self.new.text.items ≡ self.old.text.items }
-        ensures shown { MayLog self.old.text.items self.new.text.items entry.now.moment
+    /// Logs an event with its outcome: appends its line, if the log shows the event, and then the
+    /// lines of failed sends that were stored. Before that, the lines that tell what the limits
+    /// left out are appended, if the event begins another second. Afterwards, counts are reported
+    /// (`put_counts`), and buffered lines are written if they are old or many. `strangers` is the
+    /// total number of datagrams that were dropped because their endpoints are not peers.
+    pub fn note(
+        &mut self,
+        entry: &Entry<'_>,
+        outcome: &Result<Verdict, Memory>,
+        rules: &Rules,
+        strangers: u64,
+    )
+        ensures { NotesEvent self.old.shows_all self.old.text.items self.old.limits self.old.lost
+            self.new.lost (so_far (S.given self.old.sink) self.old.text.items)
+            (so_far (S.given self.new.sink) self.new.text.items) entry.now.event outcome.now
             (event_words rules.now entry.now outcome.now) }
+    {
+        let moment = entry.event.moment();
+        self.begin(moment);
+        self.put_event(entry, outcome, rules);
+        self.put_later();
+        self.put_counts(moment, strangers);
+        self.write_old(moment);
+    }
+
+    /// Appends the line of an event, if the log shows the event. If memory runs out for the line,
+    /// it is counted as lost. If the log leaves out the closing of a face, the face is counted. If
+    /// the limits leave out the line of a denied or dropped packet, the line is counted. Call
+    /// `begin` with the time of the event before: a limited line whose second has not begun is left
+    /// out.
+    fn put_event(&mut self, entry: &Entry<'_>, outcome: &Result<Verdict, Memory>, rules: &Rules)
+        ensures shown { shows self.old.shows_all self.old.limits entry.now.event outcome.now ≡ true
+            → LogsOrLoses self.old.text.items self.new.text.items (moment_of entry.now.event)
+            (event_words rules.now entry.now outcome.now) self.old.lost self.new.lost }
+        ensures hidden { shows self.old.shows_all self.old.limits entry.now.event outcome.now
+            ≡ false
+            → (self.new.text.items ≡ self.old.text.items) × (self.new.lost ≡ self.old.lost) }
         ensures closed { self.new.closed ≡ closed_with
-            (is_left_out self.old.shows_all entry.now.came outcome.now) entry.now.came
+            (is_left_out self.old.shows_all entry.now.event outcome.now) entry.now.event
             self.old.closed }
-        ensures limits { self.new.limits ≡ limits_with self.old.limits entry.now.moment
-            (limited_event self.old.shows_all entry.now.came outcome.now) }
+        ensures limits { self.new.limits ≡ limits_with self.old.limits (moment_of entry.now.event)
+            (limited_event self.old.shows_all entry.now.event outcome.now) }
         ensures others { self.new ≡ record self.old {
           text = self.new.text;
           closed = self.new.closed;
+          lost = self.new.lost;
           limits = self.new.limits;
         } }
     {
         let limited = self.limited_event(entry, outcome);
-        let held = self.holds(entry.moment, limited);
+        let held = self.holds(entry.event.moment(), limited);
         if !self.shows_all && is_plain(entry, outcome) {
-            self.count_closed(&entry.came);
+            self.count_closed(&entry.event);
             return;
         }
         if held {
             return;
         }
-        let _put = put_event(self.alloc, &mut self.text, entry, outcome, rules);
+        if put_event(self.alloc, &mut self.text, entry, outcome, rules).is_err() {
+            self.lost = self.lost.saturating_add(1);
+        }
     }
 
     /// Returns the face of an event whose line is limited, or `None` if its line is not limited.
     fn limited_event(&self, entry: &Entry<'_>, outcome: &Result<Verdict, Memory>) -> Option<u64>
-        ensures { result ≡ limited_event self.now.shows_all entry.now.came outcome.now }
+        ensures { result ≡ limited_event self.now.shows_all entry.now.event outcome.now }
     {
         if self.shows_all {
             None
@@ -197,19 +231,19 @@ impl<S: LogSink> EventLog<S> {
     }
 
     /// Counts the event if it is the closing of a face.
-    fn count_closed(&mut self, came: &Came<'_>)
+    fn count_closed(&mut self, event: &LoggedEvent<'_>)
         ensures { self.new ≡ record self.old {
-          closed = closed_with true came.now self.old.closed;
+          closed = closed_with true event.now self.old.closed;
         } }
     {
-        if let Came::Closed { .. } = came {
+        if let Event::FaceDown { .. } = event {
             self.closed = self.closed.saturating_add(1);
         }
     }
 
-    /// Stores the line of a failed send until `put_later` is called, so that the line of the event
-    /// that caused the send comes first. If memory runs out, or if the limits leave out the line,
-    /// nothing is stored. Calls `begin` first.
+    /// Stores the line of a failed send until `note` is called, so that the line of the event that
+    /// caused the send comes first. If memory runs out for the line, it is counted as lost. If the
+    /// limits leave out the line, nothing is stored. Calls `begin` first.
     pub fn put_failed_send(
         &mut self,
         moment: u64,
@@ -217,18 +251,20 @@ impl<S: LogSink> EventLog<S> {
         endpoint: Option<SocketAddr>,
         octets: &[u8],
     )
-        ensures later { MayLog self.old.later.items self.new.later.items moment
-            (failed_send_words face endpoint octets.now) }
         ensures first { self.old.text.items ≡ [] → self.new.since ≡ moment }
         ensures limits { (began : LimitsState)
             × Begins self.old.text.items self.new.text.items moment self.old.limits began
             × (self.new.limits ≡ limits_with began moment (limited_send self.old.shows_all face))
             × (is_held began moment (limited_send self.old.shows_all face) ≡ true
-            → self.new.later.items ≡ self.old.later.items) }
+            → (self.new.later.items ≡ self.old.later.items) × (self.new.lost ≡ self.old.lost))
+            × (is_held began moment (limited_send self.old.shows_all face) ≡ false
+            → LogsOrLoses self.old.later.items self.new.later.items moment
+            (failed_send_words face endpoint octets.now) self.old.lost self.new.lost) }
         ensures others { self.new ≡ record self.old {
           later = self.new.later;
           text = self.new.text;
           since = self.new.since;
+          lost = self.new.lost;
           limits = self.new.limits;
         } }
     {
@@ -237,33 +273,42 @@ impl<S: LogSink> EventLog<S> {
         if self.holds(moment, limited) {
             return;
         }
-        let _put = put_failed_send(self.alloc, &mut self.later, moment, face, endpoint, octets);
+        if put_failed_send(self.alloc, &mut self.later, moment, face, endpoint, octets).is_err() {
+            self.lost = self.lost.saturating_add(1);
+        }
     }
 
-    /// Appends the stored lines of failed sends to the buffered lines, or drops the stored lines if
-    /// memory runs out.
-    pub fn put_later(&mut self)
-        ensures text { (self.new.text.items ≡ self.old.text.items ++ self.old.later.items)
-            ⊎ (self.new.text.items ≡ self.old.text.items) }
+    /// Appends the stored lines of failed sends to the buffered lines. If memory runs out, the
+    /// stored lines are lost, and counted once.
+    fn put_later(&mut self)
+        ensures text { ((self.new.text.items ≡ self.old.text.items ++ self.old.later.items)
+            × (self.new.lost ≡ self.old.lost))
+            ⊎ ((self.new.text.items ≡ self.old.text.items)
+            × (self.new.lost ≡ one_more self.old.lost)) }
         ensures used { self.new.later.items ≡ [] }
         ensures others { self.new ≡ record self.old {
           text = self.new.text;
           later = self.new.later;
+          lost = self.new.lost;
         } }
     {
-        let _put = self.text.extend_from_slice(&self.later);
+        if self.text.extend_from_slice(&self.later).is_err() {
+            self.lost = self.lost.saturating_add(1);
+        }
         self.later.clear();
     }
 
     /// Calls `put_counts_now` if the time of the last report of a count (0 if there is none) is at
     /// least a minute away from `moment`. `strangers` is the total number of datagrams that were
     /// dropped because their endpoints are not peers.
-    pub fn put_counts(&mut self, moment: u64, strangers: u64)
+    fn put_counts(&mut self, moment: u64, strangers: u64)
+        ensures grows { (more : List ℕ) × (self.new.text.items ≡ self.old.text.items ++ more) }
         ensures others { self.new ≡ record self.old {
           text = self.new.text;
           closed = self.new.closed;
           strangers = self.new.strangers;
           counted = self.new.counted;
+          told = self.new.told;
         } }
     {
         if moment.abs_diff(self.counted) >= COUNT_MILLISECONDS {
@@ -271,33 +316,62 @@ impl<S: LogSink> EventLog<S> {
         }
     }
 
-    /// Appends a line with the number of closed faces whose closing was left out of the log, and a
-    /// line with the number of datagrams that were dropped because their endpoints are not peers.
-    /// Both lines count only what is not yet reported, and a line with the number 0 is left out.
-    /// `strangers` is the total number of these datagrams, including the datagrams that are already
-    /// reported.
+    /// Appends a line with the number of closed faces whose closing was left out of the log, a line
+    /// with the number of datagrams that were dropped because their endpoints are not peers, and a
+    /// line with the number of times that lines were lost. The lines count only what is not yet
+    /// reported, and a line with the number 0 is left out. `strangers` is the total number of these
+    /// datagrams, including the datagrams that are already reported.
     pub fn put_counts_now(&mut self, moment: u64, strangers: u64)
         ensures others { self.new ≡ record self.old {
           text = self.new.text;
           closed = self.new.closed;
           strangers = self.new.strangers;
           counted = self.new.counted;
+          told = self.new.told;
         } }
-        ensures says { (mid : List ℕ)
+        ensures says { (mid last : List ℕ)
             × SaysCount self.old.text.items mid moment (closed_words self.old.closed)
             self.old.closed self.new.closed
-            × SaysCount mid self.new.text.items moment
+            × SaysCount mid last moment
             (stranger_words (strangers - self.old.strangers))
-            (strangers - self.old.strangers) (strangers - self.new.strangers) }
+            (strangers - self.old.strangers) (strangers - self.new.strangers)
+            × SaysCount last self.new.text.items moment
+            (lost_words (self.old.lost - self.old.told))
+            (self.old.lost - self.old.told) (self.old.lost - self.new.told) }
     {
         self.put_closed(moment);
         self.put_strangers(moment, strangers);
+        self.put_lost(moment);
+    }
+
+    fn put_lost(&mut self, moment: u64)
+        ensures says { SaysCount self.old.text.items self.new.text.items moment
+            (lost_words (self.old.lost - self.old.told)) (self.old.lost - self.old.told)
+            (self.old.lost - self.new.told) }
+        ensures counts { (self.new.closed ≡ self.old.closed)
+            × (self.new.strangers ≡ self.old.strangers) }
+        ensures others { self.new ≡ record self.old {
+          text = self.new.text;
+          counted = self.new.counted;
+          told = self.new.told;
+        } }
+    {
+        if self.lost <= self.told {
+            return;
+        }
+        let more = self.lost - self.told;
+        let put = put_lost(self.alloc, &mut self.text, moment, more);
+        if put.is_ok() {
+            self.told = self.lost;
+            self.counted = moment;
+        }
     }
 
     fn put_closed(&mut self, moment: u64)
         ensures says { SaysCount self.old.text.items self.new.text.items moment
             (closed_words self.old.closed) self.old.closed self.new.closed }
         ensures strangers { self.new.strangers ≡ self.old.strangers }
+        ensures lost { (self.new.lost ≡ self.old.lost) × (self.new.told ≡ self.old.told) }
         ensures others { self.new ≡ record self.old {
           text = self.new.text;
           closed = self.new.closed;
@@ -319,6 +393,7 @@ impl<S: LogSink> EventLog<S> {
             (stranger_words (strangers - self.old.strangers))
             (strangers - self.old.strangers) (strangers - self.new.strangers) }
         ensures closed { self.new.closed ≡ self.old.closed }
+        ensures lost { (self.new.lost ≡ self.old.lost) × (self.new.told ≡ self.old.told) }
         ensures others { self.new ≡ record self.old {
           text = self.new.text;
           strangers = self.new.strangers;
@@ -357,7 +432,7 @@ impl<S: LogSink> EventLog<S> {
     /// stores `moment` as the time of the first line. If `moment` is in another second than the
     /// lines that the limits count, appends lines that tell how many lines were left out, and
     /// begins the second of `moment`.
-    pub fn begin(&mut self, moment: u64)
+    fn begin(&mut self, moment: u64)
         ensures first { self.old.text.items ≡ [] → self.new.since ≡ moment }
         ensures begins { Begins self.old.text.items self.new.text.items moment
             self.old.limits self.new.limits }
@@ -393,9 +468,10 @@ impl<S: LogSink> EventLog<S> {
 
     /// Writes all buffered lines if they have at least `MOST_GATHERED` octets together, or if the
     /// time of the first of them is at least a second away from `moment`.
-    pub fn write_old(&mut self, moment: u64)
-        ensures { (self.new ≡ self.old) ⊎ ((self.new.text.items ≡ [])
+    fn write_old(&mut self, moment: u64)
+        ensures writes { (self.new ≡ self.old) ⊎ ((self.new.text.items ≡ [])
             × Appends (S.given self.old.sink) (S.given self.new.sink) self.old.text.items) }
+        ensures lost { self.new.lost ≡ self.old.lost }
     {
         if self.text.len() >= MOST_GATHERED || moment.abs_diff(self.since) >= WAIT_MILLISECONDS {
             self.write_out();

@@ -33,4 +33,4 @@ pub use shortening::shorten_file;
 pub use stored_journal::StoredJournal;
 pub use turns::{Ran, run, run_restored};
 pub use udp_options::{LogLevel, UdpOptions};
-pub use watched_ports::{RuleSource, WatchedPorts};
+pub use watched_ports::{RuleSource, WatchedPorts, sources_are_checked_as_promised};

@@ -1,15 +1,16 @@
 //! Ports with a log of arrivals and their outcomes.
-ghost use Rattle.std.specs.Prelude.{◌≡◌, ◌∷◌, [], None, IfSome, length};
+ghost use Rattle.std.specs.Prelude.{◌≡◌, ◌∷◌, [], None, Some, IfSome, length};
 ghost use Rattle.node_ports.specs.Ports.{LiesWithin, arrived};
-ghost use Rattle.node_ports.specs.Step.{step_of};
-ghost use Rattle.ndn_daemon.specs.LoggedPorts.{IsCameOf, IsOutcomeOf, face_of, seen_in};
+ghost use Rattle.node_ports.specs.Step.{Got};
+ghost use Rattle.ndn_daemon.specs.EventLog.{so_far};
+ghost use Rattle.ndn_daemon.specs.LoggedPorts.{IsLoggedOf, IsOutcomeOf, NotesTurn, face_of, seen_in};
 
 use crate::event_log::{EventLog, LogSink};
 use info_rules::Rules;
-use journal::{Coming, JournalFile};
-use ndn_log::{Came, Entry};
+use journal::JournalFile;
+use ndn_log::{Entry, LoggedEvent};
 use ndn_tlv::Memory;
-use node_core::{Scope, Verdict};
+use node_core::{Event, Verdict, WrittenEvent};
 use node_ports::{
     Arrival, JournalledPorts, MemoryPorts, Moments, PortFault, Ports, RestartedPorts, Turn,
     UdpPorts,
@@ -65,15 +66,8 @@ impl<P: Ports + HasEndpoints + Drop> HasEndpoints for RestartedPorts<P> {
     }
 }
 
-/// An arrival without its time, and without the new rules and keys of a `NewRules` arrival.
-#[derive(Clone, Copy)]
-enum Seen {
-    Packet { face: u64, len: usize },
-    Opened { face: u64, scope: Scope },
-    Closed { face: u64 },
-    Tick,
-    NewRules,
-}
+/// An arrival without new rules and keys.
+type Seen = Event<usize, ()>;
 
 /// Ports with a log, which return the same arrivals and send the same packets as the underlying
 /// ports. Log lines are buffered. If nothing arrives soon, the buffered lines are written before
@@ -83,8 +77,8 @@ enum Seen {
 pub struct LoggedPorts<P: Ports + HasEndpoints + Drop, S: LogSink> {
     ports: P,
     log: EventLog<S>,
-    // `seen` holds the last arrival, unless it is `End`, until `note` is called for it. `moment` is
-    // the time of the last arrival that is not `End`, or 0 before the first arrival.
+    // `seen` holds the last arrival until `note` is called for it. `moment` is the time of the last
+    // arrival, or 0 before the first arrival.
     seen: Option<Seen>,
     moment: u64,
     // `opened` is the face of the last `FaceUp` arrival, and `endpoint` is the endpoint of that
@@ -122,15 +116,13 @@ impl<P: Ports + HasEndpoints + Drop, S: LogSink> LoggedPorts<P, S> {
     /// Records an arrival.
     fn see(&mut self, arrival: &Arrival)
         ensures ports { self.new.ports ≡ self.old.ports }
-        ensures seen { self.new.seen ≡ seen_in arrival.now }
+        ensures seen { self.new.seen ≡ Some (seen_in arrival.now) }
     {
-        self.seen = seen_in(arrival);
-        if let Some(Seen::Opened { face, .. }) = self.seen {
-            self.opened = face;
-            self.endpoint = self.ports.endpoint_of(face);
-        }
-        if let Some(moment) = arrival.moment() {
-            self.moment = moment;
+        self.seen = Some(seen_in(arrival));
+        self.moment = arrival.moment();
+        if let Event::FaceUp { face, .. } = arrival {
+            self.opened = *face;
+            self.endpoint = self.ports.endpoint_of(*face);
         }
     }
 
@@ -139,7 +131,7 @@ impl<P: Ports + HasEndpoints + Drop, S: LogSink> LoggedPorts<P, S> {
     fn next_or_write_out(&mut self, buffer: &mut [u8]) -> Option<Arrival>
         ensures fits { IfSome result (LiesWithin (length buffer.new)) }
         ensures came { IfSome result (λ arrival. P.does self.old.ports
-            (step_of (length buffer.new) (arrived arrival buffer.new) ∷ []) self.new.ports) }
+            (Got (length buffer.new) (arrived arrival buffer.new) ∷ []) self.new.ports) }
         ensures none { result ≡ None → P.does self.old.ports [] self.new.ports }
     {
         if self.log.is_empty() {
@@ -165,26 +157,23 @@ impl<P: Ports + HasEndpoints + Drop, S: LogSink> LoggedPorts<P, S> {
     /// Logs the outcome of an arrival, if `turn` has an outcome (`outcome_of`). `octets` begins
     /// with the arrival's octets.
     fn put_event(&mut self, seen: Seen, turn: &Turn, octets: &[u8], rules: &Rules)
-        ensures { self.new.ports ≡ self.old.ports }
+        ensures ports { self.new.ports ≡ self.old.ports }
+        ensures noted { NotesTurn seen turn.now octets.now rules.now self.old.log.shows_all
+            self.old.log.text.items self.old.log.limits self.old.log.lost self.new.log.lost
+            (so_far (S.given self.old.log.sink) self.old.log.text.items)
+            (so_far (S.given self.new.log.sink) self.new.log.text.items) }
     {
         let Some(outcome) = outcome_of(turn) else {
             return;
         };
-        let came = came_of(seen, octets);
-        let endpoint = match face_of(&came) {
+        let event = logged_event(seen, octets);
+        let endpoint = match face_of(&event) {
             Some(face) => self.endpoint_of(face),
             None => None,
         };
-        let entry = Entry {
-            moment: self.moment,
-            endpoint,
-            came,
-        };
-        self.log.begin(self.moment);
-        self.log.put_event(&entry, &outcome, rules);
-        self.log.put_later();
-        self.log.put_counts(self.moment, self.ports.strangers());
-        self.log.write_old(self.moment);
+        let entry = Entry { endpoint, event };
+        self.log
+            .note(&entry, &outcome, rules, self.ports.strangers());
     }
 }
 
@@ -204,13 +193,18 @@ impl<P: Ports + HasEndpoints + Drop, S: LogSink> Ports for LoggedPorts<P, S> {
 
     ghost stays = { λ p q. P.stays p.ports q.ports };
 
-    fn next(&mut self, buffer: &mut [u8]) -> Result<Arrival, PortFault> {
+    fn next(&mut self, buffer: &mut [u8]) -> Result<Option<Arrival>, PortFault> {
         if let Some(arrival) = self.next_or_write_out(buffer) {
-            return Ok(arrival);
+            return Ok(Some(arrival));
         }
-        let arrival = self.ports.next(buffer)?;
-        self.see(&arrival);
-        Ok(arrival)
+        match self.ports.next(buffer) {
+            Ok(Some(arrival)) => {
+                self.see(&arrival);
+                Ok(Some(arrival))
+            }
+            Ok(None) => Ok(None),
+            Err(fault) => Err(fault),
+        }
     }
 
     fn next_soon(&mut self, buffer: &mut [u8]) -> Option<Arrival> {
@@ -223,13 +217,8 @@ impl<P: Ports + HasEndpoints + Drop, S: LogSink> Ports for LoggedPorts<P, S> {
         self.ports.keeps_journal()
     }
 
-    fn commit(
-        &mut self,
-        event: &Coming<'_>,
-        time: u64,
-        verdict: &Verdict,
-    ) -> Result<(), PortFault> {
-        self.ports.commit(event, time, verdict)
+    fn commit(&mut self, event: &WrittenEvent<'_>, verdict: &Verdict) -> Result<(), PortFault> {
+        self.ports.commit(event, verdict)
     }
 
     fn send(&mut self, face: u64, octets: &[u8]) -> Result<(), PortFault> {
@@ -242,7 +231,14 @@ impl<P: Ports + HasEndpoints + Drop, S: LogSink> Ports for LoggedPorts<P, S> {
         sent
     }
 
-    fn note(&mut self, turn: &Turn, octets: &[u8], rules: &Rules) {
+    fn note(&mut self, turn: &Turn, octets: &[u8], rules: &Rules)
+        ensures ports { P.does self.old.ports [] self.new.ports }
+        // If the turn had an event with an outcome, the event is noted in the log.
+        ensures noted { IfSome self.old.seen (λ seen. NotesTurn seen turn.now octets.now rules.now
+            self.old.log.shows_all self.old.log.text.items self.old.log.limits self.old.log.lost
+            self.new.log.lost (so_far (S.given self.old.log.sink) self.old.log.text.items)
+            (so_far (S.given self.new.log.sink) self.new.log.text.items)) }
+    {
         if let Some(seen) = self.seen.take() {
             self.put_event(seen, turn, octets, rules);
         }
@@ -253,49 +249,57 @@ impl<P: Ports + HasEndpoints + Drop, S: LogSink> Ports for LoggedPorts<P, S> {
     }
 }
 
-fn seen_in(arrival: &Arrival) -> Option<Seen>
+fn seen_in(arrival: &Arrival) -> Seen
     ensures { result ≡ seen_in arrival.now }
 {
     match arrival {
-        Arrival::End => None,
-        Arrival::Packet { face, len, .. } => Some(Seen::Packet {
+        Event::Packet { face, now, octets } => Event::Packet {
             face: *face,
-            len: *len,
-        }),
-        Arrival::FaceUp { face, scope, .. } => Some(Seen::Opened {
+            now: *now,
+            octets: *octets,
+        },
+        Event::FaceUp { face, scope, now } => Event::FaceUp {
             face: *face,
             scope: *scope,
-        }),
-        Arrival::FaceDown { face, .. } => Some(Seen::Closed { face: *face }),
-        Arrival::Tick { .. } => Some(Seen::Tick),
-        Arrival::NewRules { .. } => Some(Seen::NewRules),
+            now: *now,
+        },
+        Event::FaceDown { face, now } => Event::FaceDown {
+            face: *face,
+            now: *now,
+        },
+        Event::Tick { now } => Event::Tick { now: *now },
+        Event::NewRules { now, .. } => Event::NewRules {
+            rules: (),
+            now: *now,
+        },
     }
 }
 
-/// Returns the arrival `seen` with its octets. `octets` begins with the octets of the arrival.
-fn came_of(seen: Seen, octets: &[u8]) -> Came<'_>
-    ensures { IsCameOf seen octets.now result }
+/// Returns the arrival `seen` with its octets. `buffer` begins with the octets of the arrival.
+fn logged_event(seen: Seen, buffer: &[u8]) -> LoggedEvent<'_>
+    ensures { IsLoggedOf seen buffer.now result }
 {
     match seen {
-        Seen::Packet { face, len } => Came::Packet {
+        Event::Packet { face, now, octets } => Event::Packet {
             face,
-            octets: &octets[..len.min(octets.len())],
+            now,
+            octets: &buffer[..octets.min(buffer.len())],
         },
-        Seen::Opened { face, scope } => Came::Opened { face, scope },
-        Seen::Closed { face } => Came::Closed { face },
-        Seen::Tick => Came::Tick,
-        Seen::NewRules => Came::NewRules,
+        Event::FaceUp { face, scope, now } => Event::FaceUp { face, scope, now },
+        Event::FaceDown { face, now } => Event::FaceDown { face, now },
+        Event::Tick { now } => Event::Tick { now },
+        Event::NewRules { now, .. } => Event::NewRules { rules: (), now },
     }
 }
 
-fn face_of(came: &Came<'_>) -> Option<u64>
-    ensures { result ≡ face_of came.now }
+fn face_of(event: &LoggedEvent<'_>) -> Option<u64>
+    ensures { result ≡ face_of event.now }
 {
-    match came {
-        Came::Packet { face, .. } | Came::Opened { face, .. } | Came::Closed { face } => {
+    match event {
+        Event::Packet { face, .. } | Event::FaceUp { face, .. } | Event::FaceDown { face, .. } => {
             Some(*face)
         }
-        Came::Tick | Came::NewRules => None,
+        Event::Tick { .. } | Event::NewRules { .. } => None,
     }
 }
 

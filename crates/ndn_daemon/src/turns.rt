@@ -3,7 +3,7 @@ ghost use Rattle.std.specs.Prelude.{◌≡◌, ◌≢◌, ◌⊎◌, ◌↔◌, 
 ghost use Rattle.std.specs.Vec.{vec_capacity};
 ghost use Rattle.std.specs.Io.KnownBytes.{Appends};
 ghost use Rattle.journal.specs.declared.replaying.Replayed.{Replayed};
-ghost use Rattle.node_ports.specs.Memory.{plain_arrival};
+ghost use Rattle.node_ports.specs.Ports.{plain_arrival};
 ghost use Rattle.node_ports.specs.Renewal.{RenewalValue};
 ghost use Rattle.node_ports.specs.Serving.{IsTurn};
 ghost use Rattle.node_ports.specs.Step.{PortStep};
@@ -21,7 +21,7 @@ use crate::udp_options::{LogLevel, UdpOptions};
 use crate::watched_ports::{RuleSource, WatchedPorts};
 use info_rules::Rules;
 use node_core::{
-    MAX_FACES, Node, Outbox, RunFault, Scope, put_all, put_refused, put_sends, put_verdict,
+    Event, MAX_FACES, Node, Outbox, RunFault, Scope, put_all, put_refused, put_sends, put_verdict,
 };
 use node_ports::{
     FRAME_ROOM, JournalledPorts, OwnedArrival, Ports, RestartedPorts, ServeFault, Turn, serve,
@@ -153,7 +153,13 @@ fn restart_of<J: StoredJournal, S: RuleSource, L: LogSink>(
     let mut first = Vec::new(alloc);
     let now = node.now();
     if !journal.has_last(alloc, &renewal)? {
-        put_first(&mut first, OwnedArrival::NewRules { renewal, now })?;
+        put_first(
+            &mut first,
+            Event::NewRules {
+                rules: renewal,
+                now,
+            },
+        )?;
     }
     put_closings(&mut first, node, options)?;
     Ok(first)
@@ -209,7 +215,7 @@ fn put_closing(
         return Ok(());
     }
     let now = node.now();
-    put_first(first, OwnedArrival::FaceDown { face, now })
+    put_first(first, Event::FaceDown { face, now })
 }
 
 /// Appends one event.

@@ -1,6 +1,5 @@
 //! Ports whose arrivals include new rules and keys.
-ghost use Rattle.std.specs.Prelude.{◌≡◌, ◌∷◌, ◌++◌, [], List, None, Some, IfOk, IfSome, length};
-ghost use Rattle.forwarder.specs.Event.{PlainEvent};
+ghost use Rattle.std.specs.Prelude.{◌≡◌, ◌∷◌, ◌++◌, [], List, None, IfOk, IfSome, length};
 ghost use Rattle.node_ports.specs.Ports.{LiesWithin, arrived};
 ghost use Rattle.node_ports.specs.Renewal.{RenewalValue};
 ghost use Rattle.ndn_daemon.specs.Watched.{IsRenewed};
@@ -8,13 +7,17 @@ ghost use Rattle.ndn_daemon.specs.Watched.{IsRenewed};
 use crate::fault::Fault;
 use crate::logged_ports::HasEndpoints;
 use info_rules::Rules;
-use journal::Coming;
-use node_core::Verdict;
+use node_core::{Event, Verdict, WrittenEvent};
 use node_ports::{Arrival, HeldArrival, PortFault, Ports, Renewal, Turn};
 use std::net::SocketAddr;
 
 /// The least time, in milliseconds, between two checks of the source of rules.
 const LOOK_MILLISECONDS: u64 = 1000;
+
+/// Law: the least time between two checks of a source of rules is 1,000 milliseconds.
+pub fn sources_are_checked_as_promised()
+    ensures look { LOOK_MILLISECONDS ≡ 1000 }
+{}
 
 /// A source of new rules and keys.
 pub trait RuleSource: Drop {
@@ -103,20 +106,16 @@ impl<P: Ports + Drop, S: RuleSource> WatchedPorts<P, S> {
         requires none { self.old.held ≡ None }
         ensures fits { LiesWithin (length buffer.now) result }
         ensures ports { self.new.ports ≡ self.old.ports }
-        ensures ended { arrived arrival buffer.now ≡ None → (arrived result buffer.now ≡ None)
-            × S.renews self.old.source [] self.new.source × (self.new.held ≡ None) }
-        ensures renewed { (came : PlainEvent) → arrived arrival buffer.now ≡ Some came
-            → (given : PlainEvent) × (arrived result buffer.now ≡ Some given)
-            × IsRenewed S.renews self.old.source came given self.new.source self.new.held }
+        ensures renewed { IsRenewed S.renews self.old.source (arrived arrival buffer.now)
+            (arrived result buffer.now) self.new.source self.new.held }
     {
-        let Some(now) = arrival.moment() else {
-            return arrival;
-        };
+        let now = arrival.moment();
         let Some(renewal) = self.renewed(now) else {
             return arrival;
         };
         self.held.keep(arrival, buffer);
-        Arrival::NewRules { renewal, now }
+        let rules = renewal;
+        Event::NewRules { rules, now }
     }
 }
 
@@ -143,12 +142,13 @@ impl<P: Ports + Drop, S: RuleSource> Ports for WatchedPorts<P, S> {
     ghost stays = { λ p q steps. watched_stays P.does S.renews P.has_journal P.stays p.ports q.ports
         p.source q.source p.held q.held steps };
 
-    fn next(&mut self, buffer: &mut [u8]) -> Result<Arrival, PortFault> {
+    fn next(&mut self, buffer: &mut [u8]) -> Result<Option<Arrival>, PortFault> {
         if let Some(arrival) = self.held.take(buffer) {
-            return Ok(arrival);
+            return Ok(Some(arrival));
         }
         match self.ports.next(buffer) {
-            Ok(arrival) => Ok(self.renewed_first(arrival, buffer)),
+            Ok(Some(arrival)) => Ok(Some(self.renewed_first(arrival, buffer))),
+            Ok(None) => Ok(None),
             Err(fault) => Err(fault),
         }
     }
@@ -167,13 +167,8 @@ impl<P: Ports + Drop, S: RuleSource> Ports for WatchedPorts<P, S> {
         self.ports.keeps_journal()
     }
 
-    fn commit(
-        &mut self,
-        event: &Coming<'_>,
-        time: u64,
-        verdict: &Verdict,
-    ) -> Result<(), PortFault> {
-        self.ports.commit(event, time, verdict)
+    fn commit(&mut self, event: &WrittenEvent<'_>, verdict: &Verdict) -> Result<(), PortFault> {
+        self.ports.commit(event, verdict)
     }
 
     fn send(&mut self, face: u64, octets: &[u8]) -> Result<(), PortFault> {

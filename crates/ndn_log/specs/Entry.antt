@@ -3,21 +3,26 @@ use Rattle.std.specs.Prelude.{ℕ, List, [], Bool, true, false, Option, None, So
 use Rattle.ndn_tlv.specs.declared.memory.Memory.{Memory}
 use Rattle.forwarder.specs.declared.verdict.Verdict.{Verdict}
 use Rattle.forwarder.specs.declared.verdict.Verdict.TheVariants.{Passed, Allowed, DataAllowed, Denied, NoRule, Dropped}
-use Rattle.ndn_log.specs.declared.entry.Came.{Came}
-use Rattle.ndn_log.specs.declared.entry.Came.TheVariants.{Packet, Opened, Closed, Tick, NewRules}
+use Rattle.std.specs.Borrow.{Bor}
+use Rattle.forwarder.specs.declared.event.Event.{Event}
+use Rattle.forwarder.specs.declared.event.Event.TheVariants.{Packet, FaceUp, FaceDown, Tick, NewRules}
+
+-- an event without new rules and keys
+abbrev pub LoggedEvent : Type 0
+LoggedEvent = Event (Bor (List ℕ)) (Unit {0})
 
 -- the octets that arrived, or no octets if the event is not a packet
-abbrev pub octets_in : Came → List ℕ
-octets_in (Packet face octets) = octets.now
-octets_in (Opened face scope) = []
-octets_in (Closed face) = []
-octets_in Tick = []
-octets_in NewRules = []
+abbrev pub octets_in : LoggedEvent → List ℕ
+octets_in (Packet face now octets) = octets.now
+octets_in (FaceUp face scope now) = []
+octets_in (FaceDown face now) = []
+octets_in (Tick now) = []
+octets_in (NewRules rules now) = []
 
 abbrev pub is_plain_outcome : Result Verdict Memory → Bool
 is_plain_outcome (Ok Passed) = true
 is_plain_outcome (Ok (Allowed rule status)) = false
-is_plain_outcome (Ok (DataAllowed rule)) = true
+is_plain_outcome (Ok (DataAllowed rule stored)) = true
 is_plain_outcome (Ok (Denied kind rule reason)) = false
 is_plain_outcome (Ok (NoRule kind)) = false
 is_plain_outcome (Ok (Dropped why)) = false
@@ -25,18 +30,18 @@ is_plain_outcome (Err _) = false
 
 -- Whether the event is plain: it does not bring new rules, and its verdict is `Passed` or
 -- `DataAllowed`. A log that does not show all events leaves out plain events.
-abbrev pub is_plain : Came → Result Verdict Memory → Bool
-is_plain (Packet face octets) outcome = is_plain_outcome outcome
-is_plain (Opened face scope) outcome = is_plain_outcome outcome
-is_plain (Closed face) outcome = is_plain_outcome outcome
-is_plain Tick outcome = is_plain_outcome outcome
-is_plain NewRules outcome = false
+abbrev pub is_plain : LoggedEvent → Result Verdict Memory → Bool
+is_plain (Packet face now octets) outcome = is_plain_outcome outcome
+is_plain (FaceUp face scope now) outcome = is_plain_outcome outcome
+is_plain (FaceDown face now) outcome = is_plain_outcome outcome
+is_plain (Tick now) outcome = is_plain_outcome outcome
+is_plain (NewRules rules now) outcome = false
 
 -- whether the verdict is a denial or a drop
 abbrev pub is_refusal : Result Verdict Memory → Bool
 is_refusal (Ok Passed) = false
 is_refusal (Ok (Allowed rule status)) = false
-is_refusal (Ok (DataAllowed rule)) = false
+is_refusal (Ok (DataAllowed rule stored)) = false
 is_refusal (Ok (Denied kind rule reason)) = true
 is_refusal (Ok (NoRule kind)) = true
 is_refusal (Ok (Dropped why)) = true
@@ -44,9 +49,9 @@ is_refusal (Err _) = false
 
 -- The face of a packet that was denied or dropped, or the face that could not open, or None for
 -- another event. The lines of these events are limited (`Limits`), unless all events are shown.
-abbrev pub refused_on : Came → Result Verdict Memory → Option ℕ
-refused_on (Packet face octets) outcome = if is_refusal outcome then Some face else None
-refused_on (Opened face scope) outcome = if is_refusal outcome then Some face else None
-refused_on (Closed face) outcome = None
-refused_on Tick outcome = None
-refused_on NewRules outcome = None
+abbrev pub refused_on : LoggedEvent → Result Verdict Memory → Option ℕ
+refused_on (Packet face now octets) outcome = if is_refusal outcome then Some face else None
+refused_on (FaceUp face scope now) outcome = if is_refusal outcome then Some face else None
+refused_on (FaceDown face now) outcome = None
+refused_on (Tick now) outcome = None
+refused_on (NewRules rules now) outcome = None

@@ -7,10 +7,9 @@ use Rattle.info_rules.specs.Rule.{PlainRule}
 use Rattle.forwarder.specs.declared.event.Scope as code_scope
 use Rattle.forwarder.specs.declared.event.Scope.TheVariants.{Local, Far}
 use Rattle.forwarder.specs.declared.verdict.Verdict as code
-use Rattle.ndn_log.specs.declared.entry.Came.{Came}
-use Rattle.ndn_log.specs.declared.entry.Came.TheVariants.{Packet, Opened, Closed, Tick, NewRules}
+use Rattle.forwarder.specs.declared.event.Event.TheVariants.{Packet, FaceUp, FaceDown, Tick, NewRules}
 use Rattle.ndn_log.specs.declared.entry.Entry.{Entry}
-use Rattle.ndn_log.specs.Entry.{octets_in}
+use Rattle.ndn_log.specs.Entry.{LoggedEvent, octets_in}
 use Rattle.ndn_log.specs.Packet.{frame_in, packet_words}
 use Rattle.ndn_log.specs.Verdict.{dropped_words, outcome_words}
 use Rattle.ndn_log.specs.Words.{face_words}
@@ -24,28 +23,28 @@ scope_word Far = codes "far"
 -- `frame` follow, or the word `packet` if `frame` is None. If the face was opened, ` opens, ` and
 -- the scope of the face follow. If the face was closed, ` closes` follows. For an event without a
 -- face, the words are `tick` or `rules replaced`.
-abbrev pub came_words : Option SocketAddr → Option PlainFrame → Came → List ℕ
-came_words endpoint frame (Packet face octets) =
+abbrev pub came_words : Option SocketAddr → Option PlainFrame → LoggedEvent → List ℕ
+came_words endpoint frame (Packet face now octets) =
     face_words face endpoint ++ (codes " " ++ packet_words frame)
-came_words endpoint frame (Opened face scope) =
+came_words endpoint frame (FaceUp face scope now) =
     face_words face endpoint ++ (codes " opens, " ++ scope_word scope)
-came_words endpoint frame (Closed face) = face_words face endpoint ++ codes " closes"
-came_words endpoint frame Tick = codes "tick"
-came_words endpoint frame NewRules = codes "rules replaced"
+came_words endpoint frame (FaceDown face now) = face_words face endpoint ++ codes " closes"
+came_words endpoint frame (Tick now) = codes "tick"
+came_words endpoint frame (NewRules rules now) = codes "rules replaced"
 
 -- the words for the octets of a dropped packet: the number of octets and at most the first 32
 -- octets; empty for other events
-abbrev pub end_words : Came → Result code.Verdict Memory → List ℕ
-end_words (Packet face octets) outcome = dropped_words octets.now outcome
-end_words (Opened face scope) outcome = []
-end_words (Closed face) outcome = []
-end_words Tick outcome = []
-end_words NewRules outcome = []
+abbrev pub end_words : LoggedEvent → Result code.Verdict Memory → List ℕ
+end_words (Packet face now octets) outcome = dropped_words octets.now outcome
+end_words (FaceUp face scope now) outcome = []
+end_words (FaceDown face now) outcome = []
+end_words (Tick now) outcome = []
+end_words (NewRules rules now) outcome = []
 
 -- The words for an event: what happened, the verdict or `out of memory`, and the octets of a
 -- dropped packet. The verdict shows a rule by its id in `rules`.
 abbrev pub event_words : List PlainRule → Entry → Result code.Verdict Memory → List ℕ
 event_words rules entry outcome =
-    let frame = frame_in (octets_in entry.came) in
-    came_words entry.endpoint frame entry.came
-    ++ (codes ": " ++ (outcome_words rules frame outcome ++ end_words entry.came outcome))
+    let frame = frame_in (octets_in entry.event) in
+    came_words entry.endpoint frame entry.event
+    ++ (codes ": " ++ (outcome_words rules frame outcome ++ end_words entry.event outcome))

@@ -14,6 +14,9 @@ failed_send_words face endpoint octets =
 abbrev pub closed_words : ℕ → List ℕ
 closed_words count = counted count (codes "face") ++ codes " closed"
 
+abbrev pub lost_words : ℕ → List ℕ
+lost_words count = counted count (codes "line") ++ codes " lost, out of memory"
+
 abbrev pub stranger_words : ℕ → List ℕ
 stranger_words count = counted count (codes "datagram") ++ codes " of strangers"
 

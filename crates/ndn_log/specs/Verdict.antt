@@ -45,7 +45,7 @@ abbrev pub verdict_words : List PlainRule → Option PlainFrame → Verdict → 
 verdict_words rules frame Passed = codes "passed"
 verdict_words rules frame (Allowed rule status) =
     codes "allowed by rule " ++ (id_of rules rule ++ (codes ", status " ++ decimal status))
-verdict_words rules frame (DataAllowed rule) =
+verdict_words rules frame (DataAllowed rule stored) =
     codes "allowed by rule " ++ (id_of rules rule ++ unverified_words rules rule)
 verdict_words rules frame (Denied kind rule reason) =
     denial_words rules rule reason ++ key_words frame
@@ -61,7 +61,7 @@ outcome_words rules frame (Err _) = codes "out of memory"
 abbrev pub dropped_words : List ℕ → Result code.Verdict Memory → List ℕ
 dropped_words octets (Ok outcomes.Passed) = []
 dropped_words octets (Ok (outcomes.Allowed rule status)) = []
-dropped_words octets (Ok (outcomes.DataAllowed rule)) = []
+dropped_words octets (Ok (outcomes.DataAllowed rule stored)) = []
 dropped_words octets (Ok (outcomes.Denied kind rule reason)) = []
 dropped_words octets (Ok (outcomes.NoRule kind)) = []
 dropped_words octets (Ok (outcomes.Dropped why)) = codes ", " ++ octets_words octets

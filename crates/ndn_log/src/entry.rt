@@ -3,42 +3,28 @@
 ghost use Rattle.std.specs.Prelude.{◌≡◌};
 ghost use Rattle.ndn_log.specs.Entry.{is_plain, is_plain_outcome, is_refusal, octets_in, refused_on};
 
-use forwarder::{Scope, Verdict};
+use forwarder::{Event, Verdict};
 use ndn_tlv::Memory;
 use std::net::SocketAddr;
 
-/// What happened in one event of a node.
-#[derive(Clone, Copy, Debug)]
-pub enum Came<'a> {
-    /// Octets arrived on a face.
-    Packet { face: u64, octets: &'a [u8] },
-    /// A face was opened.
-    Opened { face: u64, scope: Scope },
-    /// A face was closed.
-    Closed { face: u64 },
-    /// Time passed.
-    Tick,
-    /// Rules and keys were replaced.
-    NewRules,
-}
+/// An event as a log shows it: without new rules and keys.
+pub type LoggedEvent<'a> = Event<&'a [u8], ()>;
 
-/// An event as a log shows it.
-#[derive(Clone, Copy, Debug)]
+/// An event and its face, as a log shows them.
+#[derive(Drop)]
 pub struct Entry<'a> {
-    /// The time of the event in milliseconds since 1970.
-    pub moment: u64,
     /// The endpoint of the face, if it is known.
     pub endpoint: Option<SocketAddr>,
-    pub came: Came<'a>,
+    pub event: LoggedEvent<'a>,
 }
 
 /// Returns whether the event is plain: it does not bring new rules, and its verdict is `Passed` or
 /// `DataAllowed`. A log that does not show all events leaves out plain events.
 pub fn is_plain(entry: &Entry<'_>, outcome: &Result<Verdict, Memory>) -> bool
-    ensures { result ≡ is_plain entry.now.came outcome.now }
+    ensures { result ≡ is_plain entry.now.event outcome.now }
 {
-    match entry.came {
-        Came::NewRules => false,
+    match &entry.event {
+        Event::NewRules { .. } => false,
         _ => is_plain_outcome(outcome),
     }
 }
@@ -48,7 +34,7 @@ fn is_plain_outcome(outcome: &Result<Verdict, Memory>) -> bool
 {
     match outcome {
         Ok(Verdict::Passed) => true,
-        Ok(Verdict::DataAllowed(_)) => true,
+        Ok(Verdict::DataAllowed { .. }) => true,
         _ => false,
     }
 }
@@ -56,10 +42,12 @@ fn is_plain_outcome(outcome: &Result<Verdict, Memory>) -> bool
 /// Returns the face of a packet that was denied or dropped, or the face that could not open, or
 /// `None` for another event.
 pub fn refused_on(entry: &Entry<'_>, outcome: &Result<Verdict, Memory>) -> Option<u64>
-    ensures { result ≡ refused_on entry.now.came outcome.now }
+    ensures { result ≡ refused_on entry.now.event outcome.now }
 {
-    match entry.came {
-        Came::Packet { face, .. } | Came::Opened { face, .. } if is_refusal(outcome) => Some(face),
+    match &entry.event {
+        Event::Packet { face, .. } | Event::FaceUp { face, .. } if is_refusal(outcome) => {
+            Some(*face)
+        }
         _ => None,
     }
 }
@@ -77,10 +65,10 @@ fn is_refusal(outcome: &Result<Verdict, Memory>) -> bool
 
 /// Returns the octets that arrived, or no octets if the event is not a packet.
 pub(crate) fn octets_in<'a>(entry: &Entry<'a>) -> &'a [u8]
-    ensures { result.now ≡ octets_in entry.now.came }
+    ensures { result.now ≡ octets_in entry.now.event }
 {
-    match entry.came {
-        Came::Packet { octets, .. } => octets,
+    match &entry.event {
+        Event::Packet { octets, .. } => octets,
         _ => &[],
     }
 }

@@ -2,15 +2,16 @@
 
 ghost use Rattle.std.specs.Prelude.{◌≡◌, ◌++◌, drop, vec_len, option_map, IfOk, OnErr, OnOk};
 ghost use Rattle.ndn_packets.specs.View.{plain_frame};
+ghost use Rattle.forwarder.specs.Event.{moment_of};
 ghost use Rattle.ndn_log.specs.Event.{came_words, end_words, event_words, scope_word};
 ghost use Rattle.ndn_log.specs.Line.{IsLogged, IsOneLine};
 
-use crate::entry::{Came, Entry, octets_in};
+use crate::entry::{Entry, octets_in};
 use crate::line::put_line;
 use crate::packet::{frame_in, put_packet};
 use crate::verdict::{put_dropped, put_outcome};
 use crate::words::{put_face, put_word};
-use forwarder::{Scope, Verdict};
+use forwarder::{Event, Scope, Verdict};
 use info_rules::Rules;
 use ndn_packets::Frame;
 use ndn_tlv::Memory;
@@ -29,14 +30,14 @@ pub fn put_event(
     outcome: &Result<Verdict, Memory>,
     rules: &Rules,
 ) -> Result<(), Memory>
-    ensures ok { OnOk result (IsLogged text.old.items text.new.items entry.now.moment
+    ensures ok { OnOk result (IsLogged text.old.items text.new.items (moment_of entry.now.event)
         (event_words rules.now entry.now outcome.now)) }
     // The line is safe to show on a terminal, whatever the packet and the rule file contain.
     ensures one_line { OnOk result (IsOneLine (drop (vec_len text.old) text.new.items)) }
     ensures err { OnErr result (text.new.items ≡ text.old.items) }
 {
     let words = event_words(alloc, entry, outcome, rules)?;
-    put_line(alloc, text, entry.moment, &words)
+    put_line(alloc, text, entry.event.moment(), &words)
 }
 
 fn event_words(
@@ -65,10 +66,10 @@ fn put_end(
     outcome: &Result<Verdict, Memory>,
 ) -> Result<(), Memory>
     ensures { OnOk result (text.new.items ≡ text.old.items
-        ++ end_words entry.now.came outcome.now) }
+        ++ end_words entry.now.event outcome.now) }
 {
-    match entry.came {
-        Came::Packet { octets, .. } => put_dropped(alloc, text, octets, outcome),
+    match &entry.event {
+        Event::Packet { octets, .. } => put_dropped(alloc, text, octets, outcome),
         _ => Ok(()),
     }
 }
@@ -77,25 +78,25 @@ fn put_end(
 /// they encode none. If memory runs out, some of the text may be appended.
 fn put_came(text: &mut Vec<u8>, entry: &Entry<'_>, frame: &Option<Frame<'_>>) -> Result<(), Memory>
     ensures { OnOk result (text.new.items ≡ text.old.items ++ came_words entry.now.endpoint
-        (option_map plain_frame frame.now) entry.now.came) }
+        (option_map plain_frame frame.now) entry.now.event) }
 {
-    match entry.came {
-        Came::Packet { face, .. } => {
-            put_face(text, face, entry.endpoint)?;
+    match &entry.event {
+        Event::Packet { face, .. } => {
+            put_face(text, *face, entry.endpoint)?;
             put_word(text, " ")?;
             put_packet(text, frame)
         }
-        Came::Opened { face, scope } => {
-            put_face(text, face, entry.endpoint)?;
+        Event::FaceUp { face, scope, .. } => {
+            put_face(text, *face, entry.endpoint)?;
             put_word(text, " opens, ")?;
-            put_word(text, scope_word(scope))
+            put_word(text, scope_word(*scope))
         }
-        Came::Closed { face } => {
-            put_face(text, face, entry.endpoint)?;
+        Event::FaceDown { face, .. } => {
+            put_face(text, *face, entry.endpoint)?;
             put_word(text, " closes")
         }
-        Came::Tick => put_word(text, "tick"),
-        Came::NewRules => put_word(text, "rules replaced"),
+        Event::Tick { .. } => put_word(text, "tick"),
+        Event::NewRules { .. } => put_word(text, "rules replaced"),
     }
 }
 

@@ -13,7 +13,7 @@ mod time;
 mod verdict;
 mod words;
 
-pub use entry::{Came, Entry, is_plain, refused_on};
+pub use entry::{Entry, LoggedEvent, is_plain, refused_on};
 pub use event::put_event;
 pub use limits::{LineLimits, ShownLine, limits_follow_what_came, shown_lines_are_limited};
-pub use notes::{put_closed, put_failed_send, put_left_out, put_strangers};
+pub use notes::{put_closed, put_failed_send, put_left_out, put_lost, put_strangers};

@@ -1,10 +1,10 @@
 //! Log lines about failed sends, closed faces, datagrams from endpoints that are not peers, and
-//! lines that were left out.
+//! lines that were left out or lost.
 
 ghost use Rattle.std.specs.Prelude.{◌≡◌, ◌++◌, List, ℕ, drop, flat_map, vec_len, IfOk, OnErr, OnOk};
 ghost use Rattle.ndn_log.specs.Line.{AreLogged, IsLogged, IsOneLine};
 ghost use Rattle.ndn_log.specs.Words.{counted};
-ghost use Rattle.ndn_log.specs.Notes.{closed_words, failed_send_words, left_out_texts, left_texts, left_words, others_texts, others_words, stranger_words};
+ghost use Rattle.ndn_log.specs.Notes.{closed_words, failed_send_words, left_out_texts, left_texts, left_words, lost_words, others_texts, others_words, stranger_words};
 
 use crate::limits::{LineLimits, SECOND_LINES, ShownLine};
 use crate::line::put_line;
@@ -41,6 +41,16 @@ pub fn put_closed(alloc: Global, text: &mut Vec<u8>, moment: u64, count: u64) ->
     ensures err { OnErr result (text.new.items ≡ text.old.items) }
 {
     put_counted(alloc, text, moment, count, "face", " closed")
+}
+
+/// Appends a line that says how many times lines were lost because memory ran out. If memory runs
+/// out, nothing is appended.
+pub fn put_lost(alloc: Global, text: &mut Vec<u8>, moment: u64, count: u64) -> Result<(), Memory>
+    ensures ok { OnOk result (IsLogged text.old.items text.new.items moment (lost_words count)) }
+    ensures one_line { OnOk result (IsOneLine (drop (vec_len text.old) text.new.items)) }
+    ensures err { OnErr result (text.new.items ≡ text.old.items) }
+{
+    put_counted(alloc, text, moment, count, "line", " lost, out of memory")
 }
 
 /// Appends a line with the number of dropped datagrams from strangers, which are endpoints that are

@@ -70,7 +70,7 @@ fn put_verdict(
             )
             .map_err(|_| Memory)
         }
-        Verdict::DataAllowed(rule) => {
+        Verdict::DataAllowed { rule, .. } => {
             write!(
                 text,
                 "allowed by rule {}{}",

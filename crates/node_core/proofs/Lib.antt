@@ -9,3 +9,4 @@ pub mod OneReading
 pub mod FileWords
 pub mod Appending
 pub mod Digits
+pub mod EventLines

@@ -9,6 +9,7 @@ use Rattle.node_core.specs.Script.Line.{Lacks, IsSkipped, IsEventLine, IsBadLine
 use Rattle.node_core.specs.Script.Writing.{script_text}
 pub mod Line
 pub mod Writing
+pub mod LineWriter
 pub mod Ending
 pub mod Play
 

@@ -247,7 +247,11 @@ fn put_verdict_text(text: &mut Vec<u8>, rules: &Rules, verdict: Verdict) -> Resu
     match verdict {
         Verdict::Passed => put_word(text, b"passed"),
         Verdict::Allowed(rule, status) => put_allowed(text, rules, rule, status),
-        Verdict::DataAllowed(rule) => put_words(text, b"data ", id_of(rules, rule).as_bytes()),
+        Verdict::DataAllowed { rule, .. } => put_words(
+            text,
+            b"data ",
+            id_of(rules, rule).as_bytes(),
+        ),
         Verdict::Denied(kind, rule, reason) => put_denied(text, rules, kind, rule, reason),
         Verdict::NoRule(kind) => put_words(text, b"no-rule ", kind_name(kind)),
         Verdict::Dropped(reason) => put_dropped(text, reason),

@@ -1,10 +1,17 @@
-//! Reads rule files from octets.
+//! The octets of rule files and key files.
 ghost use Rattle.std.specs.Prelude.{MatchResult};
 ghost use Rattle.node_core.specs.Files.{AreRules, IsFaultOfRules};
 
 use info_rules::{InfoTree, Rules, RulesFault, RulesFaultKind};
 use std::alloc::Global;
 use std::str;
+
+/// The octets of a rule file and of a key file. Keys are secrets.
+#[derive(Clone, Copy)]
+pub struct Files<'a> {
+    pub rules: &'a [u8],
+    pub keys: &'a [u8],
+}
 
 /// Reads the rules in the octets of a rule file. Octets that are not UTF-8 are reported as a Syntax
 /// fault at line 0.

@@ -6,6 +6,7 @@ ghost use Rattle.node_core.specs.Script.Ending.{Ends, Stops, ComesWithGoodParts}
 
 mod input;
 mod line;
+mod line_writer;
 mod output;
 mod player;
 mod word;
@@ -13,6 +14,7 @@ mod word;
 use crate::script::player::Player;
 use forwarder::{Node, NodeFault, NodeParts};
 pub use line::{Line, line_of};
+pub use line_writer::{LineFault, WrittenEvent, event_line, hex_word};
 pub use output::put_all;
 use std::alloc::Global;
 use std::io::{Read, Write};

@@ -2,19 +2,15 @@
 use Rattle.std.proofs.Common.{◌≡◌, ℕ, zero, suc, ◌+◌, ◌-◌, ◌^◌, inl, inr, List, [], ◌∷◌, ◌++◌, take, refl, sym, ap, ◌∙◌, subst, arith, add-one, add-zero, append_assoc, append-nil, length-append, zero-add}
 use Rattle.std.specs.Prelude.{Bool, Some, slice_get, true, false, Result, Ok, Err, OnOk, OnErr, IsOk, max, min}
 use Rattle.std.specs.Result.{is_err}
-use Rattle.forwarder.specs.Event.{PlainEvent, Send, moment}
-use Rattle.forwarder.specs.Policy.{at_moment}
+use Rattle.forwarder.specs.Event.{PlainEvent, Send, at, moment}
 use Rattle.forwarder.specs.Runs.{Run, Then}
-use Rattle.forwarder.specs.Wanted.{brings_wanted}
-use Rattle.journal.specs.declared.append.Coming.{Coming}
-use Rattle.journal.specs.declared.line.Entry.{Entry}
 use Rattle.journal.specs.Appending.{IsFrontOfLine, IsLineAt, Steps}
 use Rattle.journal.specs.Journal.{IsJournalOf, with_event, with_moment}
-use Rattle.journal.specs.Journalled.{is_journalled_by}
-use Rattle.journal.specs.Line.{IsEventOf, entry_text}
+use Rattle.journal.specs.Journalled.{is_journalled_by, is_journalled_where}
+use Rattle.node_core.specs.Script.LineWriter.{IsEventOf, WrittenEvent, event_text}
 use Rattle.journal.specs.Text.{IsTextOf}
-use Rattle.journal.proofs.JournalSteps.{both_grow, by_entry}
-use Rattle.journal.proofs.LineTexts.{moved_entry}
+use Rattle.journal.proofs.JournalSteps.{both_grow, by_written}
+use Rattle.journal.proofs.LineTexts.{moved_change, moved_event}
 use Rattle.ndn_tlv.specs.declared.memory.Memory.{Memory}
 use Rattle.node_ports.specs.declared.ports.TheConstants.{FRAME_ROOM}
 use Rattle.forwarder.specs.declared.verdict.Verdict.{Verdict}
@@ -73,21 +69,19 @@ when_ok P (Err f) e h = absurd cc
 
 -- ---- the line of an event
 
-pub committed : (has : Bool) (coming : Coming) (event : PlainEvent) (old : NodeState) (v : PlainVerdict) → IsEventOf (moment event) coming.entry event
-    → (has ≡ true → coming.is_wanted ≡ brings_wanted (at_moment old.policy (moment event)) event) → is_committed has coming v ≡ has_line has old event v
-committed false coming event old v is wanted = refl
-committed true coming event old v is wanted =
-    sym (by_entry (moment event) coming.entry event coming.is_wanted v is) ∙ ap (λ (w : Bool). is_journalled_by event w v) (wanted refl)
+pub committed : (has : Bool) (t : ℕ) (e : WrittenEvent) (event : PlainEvent) (v : PlainVerdict) → IsEventOf e event → is_committed has (at t e) v ≡ has_line has event v
+committed false t e event v is = refl
+committed true t e event v is = ap (λ (changes : Bool). is_journalled_where changes v) (moved_change t e) ∙ sym (by_written e event v is)
 
-line_at : (old : NodeState) (event : PlainEvent) (e : Entry) (time : ℕ) → IsEventOf (moment event) e event → time ≡ max old.policy.now (moment event) → IsLineAt time e → IsLineOf old event (entry_text time e)
-line_at old event e time is at line =
-    subst (λ (t : ℕ). IsTextOf (with_moment t event ∷ []) (entry_text time e)) at (line (with_moment time event) (moved_entry time (moment event) e event is))
+line_at : (old : NodeState) (event : PlainEvent) (e : WrittenEvent) (time : ℕ) → IsEventOf e event → time ≡ max old.policy.now (moment event) → IsLineAt (at time e) → IsLineOf old event (event_text (at time e))
+line_at old event e time is later line =
+    subst (λ (t : ℕ). IsTextOf (with_moment t event ∷ []) (event_text (at time e))) later (line (with_moment time event) (moved_event time e event is))
 
--- the event is journalled in the steps that the ports did for its entry
-pub journals_by : (chosen : Bool) (old : NodeState) (event : PlainEvent) (e : Entry) (time : ℕ) → IsEventOf (moment event) e event → time ≡ max old.policy.now (moment event) → (chosen ≡ true → IsLineAt time e)
-    → Journals chosen old event (line_steps chosen (entry_text time e))
-journals_by true old event e time is at line = (entry_text time e, line_at old event e time is at (line refl), refl)
-journals_by false old event e time is at line = refl
+-- the event is journalled in the steps that the ports did for it
+pub journals_by : (chosen : Bool) (old : NodeState) (event : PlainEvent) (e : WrittenEvent) (time : ℕ) → IsEventOf e event → time ≡ max old.policy.now (moment event) → (chosen ≡ true → IsLineAt (at time e))
+    → Journals chosen old event (line_steps chosen (event_text (at time e)))
+journals_by true old event e time is later line = (event_text (at time e), line_at old event e time is later (line refl), refl)
+journals_by false old event e time is later line = refl
 
 -- if the old node agrees with a run, this run's journal grows by the line of an event that is
 -- answered
@@ -95,10 +89,7 @@ module _ (old new : NodeState) (event : PlainEvent) (v : PlainVerdict) (sends : 
   abbrev pub answer : Answer
   answer = record { verdict = v; sends = sends }
 
-  abbrev pub wanted : Bool
-  wanted = brings_wanted (at_moment old.policy (moment event)) event
-
-  grown_by : (chosen : Bool) (lines : List PortStep) → is_journalled_by event wanted v ≡ chosen → Journals chosen old event lines → Steps old event wanted v sends new (journalled lines)
+  grown_by : (chosen : Bool) (lines : List PortStep) → is_journalled_by event v ≡ chosen → Journals chosen old event lines → Steps old event v sends new (journalled lines)
   grown_by true lines is h = record {
     step = step;
     text =
@@ -110,26 +101,26 @@ module _ (old new : NodeState) (event : PlainEvent) (v : PlainVerdict) (sends : 
     text = subst (λ (c : Bool). IsTextOf (with_event c (with_moment (max old.policy.now (moment event)) event) []) (journalled lines)) (sym is) (ap journalled h);
   }
 
-  pub grows_by : (line : List ℕ) → is_journalled_by event wanted v ≡ true → IsLineOf old event line → GrowsJournal old (event ∷ []) (Answered answer ∷ []) line
+  pub grows_by : (line : List ℕ) → is_journalled_by event v ≡ true → IsLineOf old event line → GrowsJournal old (event ∷ []) (Answered answer ∷ []) line
   grows_by line chosen is = λ first past journal text begins run stands is_journal is_text.
       let j : Journals true old event (Wrote line ∷ []) = (line, is, refl) in
       let g = both_grow first past old new event v sends journal text (journalled (Wrote line ∷ [])) stands is_journal is_text (grown_by true (Wrote line ∷ []) chosen j) in
       (g.0, g.1, subst (λ (t : List ℕ). IsTextOf g.0 (text ++ t)) (append-nil line) g.2)
 
-  pub grows : (lines : List PortStep) → Journals (has_line true old event v) old event lines → GrowsJournal old (event ∷ []) (Answered answer ∷ []) (journalled lines)
+  pub grows : (lines : List PortStep) → Journals (has_line true event v) old event lines → GrowsJournal old (event ∷ []) (Answered answer ∷ []) (journalled lines)
   grows lines h = λ first past journal text begins run stands is_journal is_text.
-      both_grow first past old new event v sends journal text (journalled lines) stands is_journal is_text (grown_by (is_journalled_by event wanted v) lines refl h)
+      both_grow first past old new event v sends journal text (journalled lines) stands is_journal is_text (grown_by (is_journalled_by event v) lines refl h)
 
 -- an event whose line must be written is one that is journalled
 pub written_is : (has chosen : Bool) → is_written has chosen ≡ true → chosen ≡ true
 written_is true chosen h = h
 written_is false chosen h = absurd cc
 
--- octets that are a prefix of the entry's line are a prefix of the event's line
-pub front_of : (old : NodeState) (event : PlainEvent) (e : Entry) (time : ℕ) (front : List ℕ) → IsEventOf (moment event) e event → time ≡ max old.policy.now (moment event) → IsFrontOfLine time e front
+-- octets that are a prefix of the written line are a prefix of the event's line
+pub front_of : (old : NodeState) (event : PlainEvent) (e : WrittenEvent) (time : ℕ) (front : List ℕ) → IsEventOf e event → time ≡ max old.policy.now (moment event) → IsFrontOfLine (at time e) front
     → IsFront old event front
-front_of old event e time front is at (inl none) = inl none
-front_of old event e time front is at (inr h) = inr (h.0, subst (IsLineOf old event) h.2 (line_at old event e time is at h.1))
+front_of old event e time front is later (inl none) = inl none
+front_of old event e time front is later (inr h) = inr (h.0, subst (IsLineOf old event) h.2 (line_at old event e time is later h.1))
 
 -- ---- one turn
 
@@ -146,7 +137,7 @@ Handles-refused has old new event e known unharmed quiet =
     }
 
 pub Handles-answered : (has : Bool) (old new : NodeState) (event : PlainEvent) (v : PlainVerdict) (out : List Send) (failed : ℕ) (lines sent : List PortStep) → IsEvent event
-    → IsStep old event (record { verdict = v; sends = out }) new → Journals (has_line has old event v) old event lines → AreSent out failed sent
+    → IsStep old event (record { verdict = v; sends = out }) new → Journals (has_line has event v) old event lines → AreSent out failed sent
     → Handles has old new (Answered (record { verdict = v; sends = out })) failed (Got FRAME_ROOM event ∷ (lines ++ sent))
 Handles-answered has old new event v out failed lines sent known step line sending =
     let done_as = Answered (record { verdict = v; sends = out }) in
@@ -159,7 +150,7 @@ Handles-answered has old new event v out failed lines sent known step line sendi
       are_steps = (lines, sent, line, sending, refl);
       goes_on = goes_on_from old new (event ∷ []) (done_as ∷ []) (new, handled, refl);
       journal = λ on. subst (GrowsJournal old (event ∷ []) (done_as ∷ [])) (sym all)
-          (grows old new event v out step lines (subst (λ (b : Bool). Journals (has_line b old event v) old event lines) on line));
+          (grows old new event v out step lines (subst (λ (b : Bool). Journals (has_line b event v) old event lines) on line));
     }
 
 -- if the outbox was empty before the step of an event, the sends of this step are the content of

@@ -4,7 +4,7 @@ use Rattle.std.specs.Prelude.{Bool, true, false, Option, Some, None, Result, Ok,
 use Rattle.forwarder.specs.Event.{PlainEvent}
 use Rattle.node_ports.specs.Ports.{cut_to}
 use Rattle.node_ports.specs.Restarted.{AreDoneRestarted}
-use Rattle.node_ports.specs.Step.{PortStep, Got, Ended, FailedNext, Wrote, FailedWrite, Gave, FailedSend, line_steps, step_of}
+use Rattle.node_ports.specs.Step.{PortStep, Got, Ended, FailedNext, Wrote, FailedWrite, Gave, FailedSend, line_steps}
 
 pub ok_then : {T E : Type 0} (r : Result T E) (A B : Type 0) → (A → B) → OnOk r A → OnOk r B
 ok_then (Ok v) A B then h = then h
@@ -40,11 +40,10 @@ module _ {P : Type 0} (does : P → List PortStep → P → Type 0) where
   -- ---- with events of their own
 
   -- an event of their own arrives
-  pub restarted_own : (p : P) (own left : List PlainEvent) (event : PlainEvent) (room : ℕ) (given : Option PlainEvent) → does p [] p → own ≡ event ∷ left → given ≡ Some (cut_to room event)
-      → AreDoneRestarted does p own (step_of room given ∷ []) p left
+  pub restarted_own : (p : P) (own left : List PlainEvent) (event : PlainEvent) (room : ℕ) (given : PlainEvent) → does p [] p → own ≡ event ∷ left → given ≡ cut_to room event
+      → AreDoneRestarted does p own (Got room given ∷ []) p left
   restarted_own p own left event room given rests is comes =
-      subst (λ (o : List PlainEvent). AreDoneRestarted does p o (step_of room given ∷ []) p left) (sym is)
-      (subst (λ (g : Option PlainEvent). AreDoneRestarted does p (event ∷ left) (step_of room g ∷ []) p left) (sym comes) (p, left, (rests, refl, refl), (rests, refl)))
+      subst (λ (o : List PlainEvent). AreDoneRestarted does p o (Got room given ∷ []) p left) (sym is) (p, left, (rests, comes, refl), (rests, refl))
 
   -- no event of their own is left
   pub restarted_none : (p q : P) (own left : List PlainEvent) (step : PortStep) → does q [] q → own ≡ [] → left ≡ own → does p (step ∷ []) q → AreDoneRestarted does p own (step ∷ []) q left

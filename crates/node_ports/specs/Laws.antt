@@ -7,6 +7,7 @@ use Rattle.forwarder.specs.Event.{PlainEvent}
 use Rattle.node_ports.specs.Journalled.{of_ports}
 use Rattle.node_ports.specs.Memory.{MemoryTrace, AreDoneInMemory}
 use Rattle.node_ports.specs.Restarted.{DoesRestarted, AreDoneRestarted}
+use Rattle.node_ports.specs.Ports.{Arrival}
 use Rattle.node_ports.specs.Step.{PortStep, Got, Ended, FailedNext, Wrote, FailedWrite, Gave, FailedSend, count_after, failures_in, journalled, one_more, step_of}
 
 -- ---- counts of failed calls
@@ -35,9 +36,9 @@ counted_after a b c x y h k =
     k ∙ ap (λ (n : ℕ). count_after n (failures_in y)) h ∙ count_after-add a (failures_in x) (failures_in y) ∙ ap (count_after a) (sym (failures_in-append x y))
 
 -- an arrival is no failure
-pub arrival_works : (room : ℕ) (event : Option PlainEvent) → failures_in (step_of room event ∷ []) ≡ 0
-arrival_works room Option.None = refl
-arrival_works room (Option.Some event) = refl
+pub arrival_works : (room : ℕ) (arrival : Option Arrival) (buffer : List ℕ) → failures_in (step_of room arrival buffer ∷ []) ≡ 0
+arrival_works room Option.None buffer = refl
+arrival_works room (Option.Some arrival) buffer = refl
 
 -- ---- ports in memory
 

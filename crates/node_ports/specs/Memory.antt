@@ -1,17 +1,8 @@
 -- Ports in memory.
 use Rattle.std.specs.Prelude.{◌≡◌, ℕ, List, [], ◌∷◌, ◌++◌}
-use Rattle.forwarder.specs.Event.{PlainEvent, Packet, FaceUp, FaceDown, Tick, NewRules, Send}
+use Rattle.forwarder.specs.Event.{PlainEvent, Send}
 use Rattle.node_ports.specs.Ports.{cut_to}
 use Rattle.node_ports.specs.Step.{PortStep, Got, Ended, FailedNext, Wrote, FailedWrite, Gave, FailedSend, one_more}
-use Rattle.node_ports.specs.declared.memory.OwnedArrival.{OwnedArrival}
-use Rattle.node_ports.specs.declared.memory.OwnedArrival.TheVariants as owned
-
-abbrev pub plain_arrival : OwnedArrival → PlainEvent
-plain_arrival (owned.Packet face now octets) = Packet face now octets.items
-plain_arrival (owned.FaceUp face scope now) = FaceUp face scope now
-plain_arrival (owned.FaceDown face now) = FaceDown face now
-plain_arrival (owned.Tick now) = Tick now
-plain_arrival (owned.NewRules renewal now) = NewRules renewal.rules renewal.keys now
 
 -- The events that have not yet arrived, the packets that were accepted, the number of calls of
 -- `next` that succeeded (at most the greatest u64), for each accepted packet this number when the

@@ -8,10 +8,9 @@ use Rattle.node_ports.specs.declared.serving.Turn.TheVariants as turn
 use Rattle.forwarder.specs.Event.{PlainEvent, Send, moment}
 use Rattle.forwarder.specs.Node.{NodeState}
 use Rattle.node_core.specs.Outcomes.{Outcome, Answered, NoMemory, ExtendsRuns, IsOutcome, run_from}
-use Rattle.forwarder.specs.Policy.{Policy, at_moment}
+use Rattle.forwarder.specs.Policy.{Policy}
 use Rattle.forwarder.specs.Runs.{Run, IsRun, Stands}
 use Rattle.forwarder.specs.Verdict.{Answer, Verdict, verdict_of}
-use Rattle.forwarder.specs.Wanted.{brings_wanted}
 use Rattle.journal.specs.Journal.{IsJournalOf, with_moment}
 use Rattle.journal.specs.Journalled.{is_journalled_by}
 use Rattle.journal.specs.Text.{IsTextOf}
@@ -21,10 +20,8 @@ use Rattle.node_ports.specs.Step.{PortStep, Got, Ended, FailedNext, FailedWrite,
 
 -- whether ports with a journal (`true`) write a line for the event, which the node answered with
 -- this verdict
-abbrev pub has_line : Bool → NodeState → PlainEvent → Verdict → Bool
-has_line has old event verdict =
-    is_written has
-    (is_journalled_by event (brings_wanted (at_moment old.policy (moment event)) event) verdict)
+abbrev pub has_line : Bool → PlainEvent → Verdict → Bool
+has_line has event verdict = is_written has (is_journalled_by event verdict)
 
 -- The line of the event. The time in the line is the greater of the time of the node and the time
 -- of the event.
@@ -50,7 +47,7 @@ AreSent (sent ∷ sends) failed steps =
 -- nothing else was done.
 abbrev pub AreTurnSteps : Bool → NodeState → PlainEvent → Outcome → ℕ → List PortStep → Type 0
 AreTurnSteps has old event (Answered answer) failed steps =
-    (lines sent : List PortStep) × Journals (has_line has old event answer.verdict) old event lines
+    (lines sent : List PortStep) × Journals (has_line has event answer.verdict) old event lines
     × AreSent answer.sends failed sent × (steps ≡ Got FRAME_ROOM event ∷ (lines ++ sent))
 AreTurnSteps has old event NoMemory failed steps =
     (failed ≡ 0) × (steps ≡ Got FRAME_ROOM event ∷ [])
@@ -90,7 +87,7 @@ pub record FailsToWrite (has : Bool) (old new : NodeState) (steps : List PortSte
   pub event : PlainEvent
   pub answer : Answer
   pub handled : IsOutcome old event (Answered answer) new
-  pub must : has_line has old event answer.verdict ≡ true
+  pub must : has_line has event answer.verdict ≡ true
   pub front : List ℕ
   pub is_front : IsFront old event front
   pub goes_on : ExtendsRuns old (event ∷ []) (Answered answer ∷ []) new

@@ -2,8 +2,9 @@
 use Rattle.std.specs.Prelude.{ℕ, zero, suc, ◌+◌, ◌-◌, ◌^◌, min, Bool, true, false, List, [], ◌∷◌, ◌++◌, Option, None, Some}
 use Rattle.forwarder.specs.Event.{PlainEvent, Send}
 use Rattle.forwarder.specs.Verdict.{Verdict}
-use Rattle.journal.specs.Appending.{is_journalled_entry}
-use Rattle.journal.specs.declared.append.Coming.{Coming}
+use Rattle.node_core.specs.Script.LineWriter.{WrittenEvent}
+use Rattle.journal.specs.Appending.{is_journalled_written}
+use Rattle.node_ports.specs.Ports.{Arrival, arrived}
 
 pub data PortStep : Type 0 where
   -- An event arrived. The buffer had `room` octets, and octets of a packet that did not fit are
@@ -22,10 +23,11 @@ pub data PortStep : Type 0 where
   -- a packet was not accepted
   FailedSend : (send : Send) → PortStep
 
--- the step of a call that gave this event, or that found no more arrivals (None)
-abbrev pub step_of : ℕ → Option PlainEvent → PortStep
-step_of room None = Ended
-step_of room (Some event) = Got room event
+-- the step of a call that gave this arrival in a buffer with `room` octets, which are then these,
+-- or that found no more arrivals (None)
+abbrev pub step_of : ℕ → Option Arrival → List ℕ → PortStep
+step_of room None buffer = Ended
+step_of room (Some arrival) buffer = Got room (arrived arrival buffer)
 
 -- whether the line of an event is written, given whether the ports have a journal, and whether the
 -- event must be journalled
@@ -38,10 +40,9 @@ abbrev pub line_steps : Bool → List ℕ → List PortStep
 line_steps true line = Wrote line ∷ []
 line_steps false line = []
 
--- whether the line of the event in `coming` is written
-abbrev pub is_committed : Bool → Coming → Verdict → Bool
-is_committed has coming verdict =
-    is_written has (is_journalled_entry coming.entry coming.is_wanted verdict)
+-- whether ports with a journal (`true`) write the line of the event
+abbrev pub is_committed : Bool → WrittenEvent → Verdict → Bool
+is_committed has event verdict = is_written has (is_journalled_written event verdict)
 
 -- ---- what steps add up to
 

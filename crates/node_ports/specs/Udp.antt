@@ -5,8 +5,8 @@ use Rattle.std.specs.declared.net.socket_addr.SocketAddr.{SocketAddr}
 use Rattle.forwarder.specs.declared.event.Scope.{Scope}
 use Rattle.forwarder.specs.declared.event.Scope.TheVariants.{Local, Far}
 use Rattle.node_ports.specs.declared.ports.TheConstants.{FRAME_ROOM}
-use Rattle.node_ports.specs.declared.ports.Arrival.{Arrival}
-use Rattle.node_ports.specs.declared.ports.Arrival.TheVariants.{End, Packet, FaceUp, FaceDown, Tick, NewRules}
+use Rattle.forwarder.specs.declared.event.Event.TheVariants.{Packet, FaceUp, FaceDown, Tick, NewRules}
+use Rattle.node_ports.specs.Ports.{Arrival}
 use Rattle.node_ports.specs.declared.known_endpoints.KnownEndpoints.{KnownEndpoints}
 use Rattle.node_ports.specs.declared.known_endpoints.Met.TheVariants.{Face, Opening, Closing}
 use Rattle.node_ports.specs.declared.clients.Client.{Client}
@@ -91,7 +91,6 @@ OpensPeer before after (FaceUp face scope now) =
     × (scope ≡ scope_of_face before.local face)
     × (after ≡ record before { opened = face; told = now })
 OpensPeer before after (Packet face now len) = ⊥
-OpensPeer before after End = ⊥
 OpensPeer before after (FaceDown face now) = ⊥
 OpensPeer before after (Tick now) = ⊥
 OpensPeer before after (NewRules renewal now) = ⊥
@@ -111,7 +110,6 @@ GivesWaiting before after buffer (Packet face now len) =
       told = now;
     })
 GivesWaiting before after buffer (FaceUp face scope now) = ⊥
-GivesWaiting before after buffer End = ⊥
 GivesWaiting before after buffer (FaceDown face now) = ⊥
 GivesWaiting before after buffer (Tick now) = ⊥
 GivesWaiting before after buffer (NewRules renewal now) = ⊥
@@ -147,7 +145,6 @@ Brings before after endpoint datagram buffer (FaceDown face now) =
       waiting = Some (kept endpoint None datagram);
       told = now;
     })
-Brings before after endpoint datagram buffer End = ⊥
 Brings before after endpoint datagram buffer (Tick now) = ⊥
 Brings before after endpoint datagram buffer (NewRules renewal now) = ⊥
 

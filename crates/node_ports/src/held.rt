@@ -1,10 +1,10 @@
 //! An arrival that is kept for a later turn.
 ghost use Rattle.std.specs.Prelude.{◌≡◌, None, Some, length, IfSome};
-ghost use Rattle.std.specs.Option.{option_map};
 ghost use Rattle.forwarder.specs.Event.{PlainEvent};
-ghost use Rattle.node_ports.specs.Ports.{FitsHeld, LiesWithin, arrived, cut_to, held_event};
+ghost use Rattle.node_ports.specs.Ports.{LiesWithin, arrived, cut_to};
 
 use crate::ports::{Arrival, FRAME_ROOM, put_front};
+use forwarder::Event;
 use std::marker::Model;
 
 /// At most one arrival, with the octets of its packet.
@@ -38,14 +38,13 @@ impl HeldArrival {
         }
     }
 
-    /// Keeps an arrival in place of the one that was kept before. `End` is not kept, and then none
-    /// is. If the arrival is a packet, its octets are the first octets of the buffer, and at most
-    /// 9,001 of them are kept.
+    /// Keeps an arrival in place of the one that was kept before. If the arrival is a packet, its
+    /// octets are the first octets of the buffer, and at most 9,001 of them are kept.
     pub fn keep(&mut self, arrival: Arrival, buffer: &[u8])
         requires { LiesWithin (length buffer.now) arrival }
-        ensures { self.new ≡ option_map (cut_to FRAME_ROOM) (arrived arrival buffer.now) }
+        ensures { self.new ≡ Some (cut_to FRAME_ROOM (arrived arrival buffer.now)) }
     {
-        self.arrival = kept(arrival, buffer, &mut self.octets);
+        self.arrival = Some(kept(arrival, buffer, &mut self.octets));
     }
 
     /// Returns the arrival that was kept, if there is one. Copies the octets of a packet to the
@@ -54,14 +53,14 @@ impl HeldArrival {
         ensures fits { IfSome result (LiesWithin (length buffer.new)) }
         ensures taken { IfSome result (λ arrival. (event : PlainEvent)
             × (self.old ≡ Some event)
-            × (arrived arrival buffer.new ≡ Some (cut_to (length buffer.new) event))) }
+            × (arrived arrival buffer.new ≡ cut_to (length buffer.new) event)) }
         ensures none { result ≡ None → self.old ≡ None }
         ensures empty { self.new ≡ None }
     {
         match self.arrival.take()? {
-            Arrival::Packet { face, now, len } => {
-                let len = put_front(&self.octets[..len], buffer);
-                Some(Arrival::Packet { face, now, len })
+            Event::Packet { face, now, octets } => {
+                let octets = put_front(&self.octets[..octets], buffer);
+                Some(Event::Packet { face, now, octets })
             }
             other => Some(other),
         }
@@ -69,18 +68,16 @@ impl HeldArrival {
 }
 
 // Returns the arrival as it is kept, and copies the octets of a packet.
-fn kept(arrival: Arrival, buffer: &[u8], octets: &mut [u8; FRAME_ROOM]) -> Option<Arrival>
+fn kept(arrival: Arrival, buffer: &[u8], held: &mut [u8; FRAME_ROOM]) -> Arrival
     requires { LiesWithin (length buffer.now) arrival }
-    ensures fits { FitsHeld result }
-    ensures event { held_event result octets.new
-        ≡ option_map (cut_to FRAME_ROOM) (arrived arrival buffer.now) }
+    ensures fits { LiesWithin FRAME_ROOM result }
+    ensures event { arrived result held.new ≡ cut_to FRAME_ROOM (arrived arrival buffer.now) }
 {
     match arrival {
-        Arrival::End => None,
-        Arrival::Packet { face, now, len } => {
-            let len = put_front(&buffer[..len], octets);
-            Some(Arrival::Packet { face, now, len })
+        Event::Packet { face, now, octets } => {
+            let octets = put_front(&buffer[..octets], held);
+            Event::Packet { face, now, octets }
         }
-        other => Some(other),
+        other => other,
     }
 }

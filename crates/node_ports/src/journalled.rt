@@ -5,7 +5,8 @@ use crate::ports::{Arrival, PortFault, Ports};
 use crate::serving::Turn;
 use forwarder::Verdict;
 use info_rules::Rules;
-use journal::{Coming, JournalFile, append_event};
+use journal::{JournalFile, append_event};
+use node_core::WrittenEvent;
 use std::alloc::Global;
 
 /// Ports with a journal in a file. They return the same arrivals and accept the same packets as the
@@ -76,7 +77,7 @@ impl<P: Ports + Drop, F: JournalFile + Drop> Ports for JournalledPorts<P, F> {
 
     ghost stays = { λ p q steps h. refl };
 
-    fn next(&mut self, buffer: &mut [u8]) -> Result<Arrival, PortFault> {
+    fn next(&mut self, buffer: &mut [u8]) -> Result<Option<Arrival>, PortFault> {
         self.ports.next(buffer)
     }
 
@@ -88,13 +89,8 @@ impl<P: Ports + Drop, F: JournalFile + Drop> Ports for JournalledPorts<P, F> {
         true
     }
 
-    fn commit(
-        &mut self,
-        event: &Coming<'_>,
-        time: u64,
-        verdict: &Verdict,
-    ) -> Result<(), PortFault> {
-        match append_event(self.alloc, &mut self.file, time, event, verdict) {
+    fn commit(&mut self, event: &WrittenEvent<'_>, verdict: &Verdict) -> Result<(), PortFault> {
+        match append_event(self.alloc, &mut self.file, event, verdict) {
             Ok(()) => Ok(()),
             Err(_) => Err(PortFault::Failed),
         }

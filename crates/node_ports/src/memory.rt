@@ -1,43 +1,20 @@
-ghost use Rattle.std.specs.Prelude.{◌≡◌, ◌-◌, ◌↔◌, ◌++◌, [], ◌∷◌, Some, length, map, IfOk, IsErr, IsTrue, OnErr, OnOk};
-ghost use Rattle.node_ports.specs.Memory.{AreDoneInMemory, plain_arrival};
-ghost use Rattle.node_ports.specs.Ports.{LiesWithin, arrived, cut_to};
+ghost use Rattle.std.specs.Prelude.{◌≡◌, ◌-◌, ◌↔◌, ◌++◌, [], ◌∷◌, length, map, IfOk, IfSome, IsErr, IsTrue, OnErr, OnOk};
+ghost use Rattle.node_ports.specs.Memory.{AreDoneInMemory};
+ghost use Rattle.node_ports.specs.Ports.{LiesWithin, arrived, cut_to, plain_arrival};
 ghost use Rattle.node_ports.specs.Step.{FailedNext, FailedSend, Gave, one_more, step_of};
 
 use crate::ports::{Arrival, PortFault, Ports, put_front};
 use crate::renewal::Renewal;
 use crate::serving::Turn;
-use forwarder::{Outbox, Scope, Verdict};
+use forwarder::{Event, Outbox, Verdict};
 use info_rules::Rules;
-use journal::Coming;
+use node_core::WrittenEvent;
 use std::alloc::Global;
 use std::collections::VecDeque;
 use std::marker::Model;
 
 /// An arrival that owns its octets.
-#[derive(Drop)]
-pub enum OwnedArrival {
-    Packet {
-        face: u64,
-        now: u64,
-        octets: Vec<u8>,
-    },
-    FaceUp {
-        face: u64,
-        scope: Scope,
-        now: u64,
-    },
-    FaceDown {
-        face: u64,
-        now: u64,
-    },
-    Tick {
-        now: u64,
-    },
-    NewRules {
-        renewal: Renewal,
-        now: u64,
-    },
-}
+pub type OwnedArrival = Event<Vec<u8>, Renewal>;
 
 /// Ports in memory. The arrivals are the events of a list, and the ports store the packets that are
 /// sent, and which calls of `next` came before each of them.
@@ -57,7 +34,8 @@ pub struct MemoryPorts {
 
 impl Model for MemoryPorts {
     ghost use Rattle.std.specs.Prelude.{map};
-    ghost use Rattle.node_ports.specs.Memory.{MemoryState, plain_arrival};
+    ghost use Rattle.node_ports.specs.Memory.{MemoryState};
+    ghost use Rattle.node_ports.specs.Ports.{plain_arrival};
 
     ghost Value = { MemoryState };
 
@@ -162,10 +140,11 @@ impl Ports for MemoryPorts {
 
     ghost stays = { λ p q steps h. refl };
 
-    fn next(&mut self, buffer: &mut [u8]) -> Result<Arrival, PortFault>
-        ensures fits { IfOk result (LiesWithin (length buffer.new)) }
+    fn next(&mut self, buffer: &mut [u8]) -> Result<Option<Arrival>, PortFault>
+        ensures fits { IfOk result
+            (λ arrival. IfSome arrival (LiesWithin (length buffer.new))) }
         ensures came { IfOk result (λ arrival. AreDoneInMemory self.old.trace
-            (step_of (length buffer.new) (arrived arrival buffer.new) ∷ []) self.new.trace) }
+            (step_of (length buffer.new) arrival buffer.new ∷ []) self.new.trace) }
         ensures failed { OnErr result
             (AreDoneInMemory self.old.trace (FailedNext ∷ []) self.new.trace) }
         // The call fails if and only if it is told to fail.
@@ -178,8 +157,8 @@ impl Ports for MemoryPorts {
         }
         self.asked = self.asked.saturating_add(1);
         match self.arrivals.pop_front() {
-            Some(event) => Ok(put_event(event, buffer)),
-            None => Ok(Arrival::End),
+            Some(event) => Ok(Some(put_event(event, buffer))),
+            None => Ok(None),
         }
     }
 
@@ -192,12 +171,7 @@ impl Ports for MemoryPorts {
     }
 
     // These ports have no journal.
-    fn commit(
-        &mut self,
-        _event: &Coming<'_>,
-        _time: u64,
-        _verdict: &Verdict,
-    ) -> Result<(), PortFault> {
+    fn commit(&mut self, _event: &WrittenEvent<'_>, _verdict: &Verdict) -> Result<(), PortFault> {
         Ok(())
     }
 
@@ -244,17 +218,17 @@ fn is_told(told: &mut u64) -> bool
 pub(crate) fn put_event(event: OwnedArrival, buffer: &mut [u8]) -> Arrival
     ensures fits { LiesWithin (length buffer.new) result }
     ensures event { arrived result buffer.new
-        ≡ Some (cut_to (length buffer.new) (plain_arrival event)) }
+        ≡ cut_to (length buffer.new) (plain_arrival event) }
 {
     match event {
-        OwnedArrival::Packet { face, now, octets } => Arrival::Packet {
+        Event::Packet { face, now, octets } => Event::Packet {
             face,
             now,
-            len: put_front(octets.as_slice(), buffer),
+            octets: put_front(octets.as_slice(), buffer),
         },
-        OwnedArrival::FaceUp { face, scope, now } => Arrival::FaceUp { face, scope, now },
-        OwnedArrival::FaceDown { face, now } => Arrival::FaceDown { face, now },
-        OwnedArrival::Tick { now } => Arrival::Tick { now },
-        OwnedArrival::NewRules { renewal, now } => Arrival::NewRules { renewal, now },
+        Event::FaceUp { face, scope, now } => Event::FaceUp { face, scope, now },
+        Event::FaceDown { face, now } => Event::FaceDown { face, now },
+        Event::Tick { now } => Event::Tick { now },
+        Event::NewRules { rules, now } => Event::NewRules { rules, now },
     }
 }

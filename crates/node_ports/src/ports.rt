@@ -1,19 +1,19 @@
 ghost use Rattle.std.specs.Prelude.{◌≡◌, ℕ, Bool, List, [], ◌∷◌, ◌++◌, None, true, length, min, take, IfOk, IfSome, OnOk, OnErr};
 ghost use Rattle.forwarder.specs.Verdict.{verdict_of};
 ghost use Rattle.journal.specs.Appending.{IsFrontOfLine, IsLineAt};
-ghost use Rattle.journal.specs.Line.{entry_text};
-ghost use Rattle.node_ports.specs.Ports.{LiesWithin, arrived, moment_of};
-ghost use Rattle.node_ports.specs.Step.{FailedNext, FailedSend, FailedWrite, Gave, PortStep, count_after, failures_in, is_committed, line_steps, step_of};
+ghost use Rattle.node_core.specs.Script.LineWriter.{event_text};
+ghost use Rattle.node_ports.specs.Ports.{LiesWithin, arrived};
+ghost use Rattle.node_ports.specs.Step.{FailedNext, FailedSend, FailedWrite, Gave, Got, PortStep, count_after, failures_in, is_committed, line_steps, step_of};
 
 use crate::clients::GIVE_WAY_MILLISECONDS;
 use crate::datagram::ANSWER_SECONDS;
 use crate::renewal::Renewal;
 use crate::serving::Turn;
 use crate::udp::SOON_MILLISECONDS;
-use forwarder::{Scope, Verdict};
+use forwarder::{Event, Verdict};
 use info_rules::Rules;
-use journal::Coming;
 use ndn_packets::MAX_FRAME;
+use node_core::WrittenEvent;
 use thiserror::Error;
 
 /// The greatest number of octets that are read of a packet or datagram: one octet more than the
@@ -31,38 +31,9 @@ pub fn ports_are_as_promised()
     ensures answer { ANSWER_SECONDS ≡ 4 }
 {}
 
-/// What a port returns in one turn. Times are in milliseconds since 1970.
-#[derive(Drop)]
-pub enum Arrival {
-    /// There are no more arrivals.
-    End,
-    /// Octets arrived on a face: the first `len` octets of the buffer.
-    Packet { face: u64, now: u64, len: usize },
-    /// A face was opened.
-    FaceUp { face: u64, scope: Scope, now: u64 },
-    /// A face was closed.
-    FaceDown { face: u64, now: u64 },
-    /// Time passed.
-    Tick { now: u64 },
-    /// These rules and keys replace those in force. The new rules and keys apply to later arrivals.
-    NewRules { renewal: Renewal, now: u64 },
-}
-
-impl Arrival {
-    /// Returns the time of the arrival, or `None` for the arrival `End`.
-    pub fn moment(&self) -> Option<u64>
-        ensures { result ≡ moment_of self.now }
-    {
-        match self {
-            Arrival::End => None,
-            Arrival::Packet { now, .. }
-            | Arrival::FaceUp { now, .. }
-            | Arrival::FaceDown { now, .. }
-            | Arrival::Tick { now }
-            | Arrival::NewRules { now, .. } => Some(*now),
-        }
-    }
-}
+/// An event as a port gives it. The octets of a packet are the first ones of the buffer, as many as
+/// the event says.
+pub type Arrival = Event<usize, Renewal>;
 
 /// A port failed.
 #[derive(Clone, Copy, Debug, PartialEq, Eq, Error)]
@@ -85,12 +56,13 @@ pub trait Ports {
     // The number of failed calls of `next` and `send`, at most the greatest u64.
     ghost failures: { Self → ℕ };
 
-    /// Returns the next arrival. Copies the octets of a packet to the start of the buffer. A packet
-    /// longer than the buffer is truncated.
-    fn next(&mut self, buffer: &mut [u8]) -> Result<Arrival, PortFault>
-        ensures fits { IfOk result (LiesWithin (length buffer.new)) }
+    /// Returns the next arrival, or `None` if there are no more arrivals. Copies the octets of a
+    /// packet to the start of the buffer. A packet longer than the buffer is truncated.
+    fn next(&mut self, buffer: &mut [u8]) -> Result<Option<Arrival>, PortFault>
+        ensures fits { IfOk result
+            (λ arrival. IfSome arrival (LiesWithin (length buffer.new))) }
         ensures came { IfOk result (λ arrival. does self.old
-            (step_of (length buffer.new) (arrived arrival buffer.new) ∷ []) self.new) }
+            (step_of (length buffer.new) arrival buffer.new ∷ []) self.new) }
         ensures failed { OnErr result (does self.old (FailedNext ∷ []) self.new) };
 
     /// Returns the next arrival, as `next` does, if an arrival is available within some
@@ -99,7 +71,7 @@ pub trait Ports {
     fn next_soon(&mut self, buffer: &mut [u8]) -> Option<Arrival>
         ensures fits { IfSome result (LiesWithin (length buffer.new)) }
         ensures came { IfSome result (λ arrival. does self.old
-            (step_of (length buffer.new) (arrived arrival buffer.new) ∷ []) self.new) }
+            (Got (length buffer.new) (arrived arrival buffer.new) ∷ []) self.new) }
         ensures none { result ≡ None → does self.old [] self.new };
 
     /// Returns whether the port has a journal.
@@ -108,18 +80,18 @@ pub trait Ports {
 
     /// Is called for each answered event with its verdict, before the event's packets are sent. If
     /// the event must be journalled, a port with a journal appends the event's line, and succeeds
-    /// only when the line survives a crash. The time in the line is `time`: the greatest of the
-    /// times of this event and all events answered before.
-    fn commit(&mut self, event: &Coming<'_>, time: u64, verdict: &Verdict) -> Result<(), PortFault>
+    /// only when the line survives a crash. The moment of `event` is the time in the line: the
+    /// greatest of the moments of this event and all events answered before.
+    fn commit(&mut self, event: &WrittenEvent<'_>, verdict: &Verdict) -> Result<(), PortFault>
         ensures done { OnOk result (does self.old
             (line_steps (is_committed (has_journal self.old) event.now (verdict_of verdict.now))
-            (entry_text time event.now.entry)) self.new) }
+            (event_text event.now)) self.new) }
         ensures line { OnOk result
             (is_committed (has_journal self.old) event.now (verdict_of verdict.now) ≡ true
-            → IsLineAt time event.now.entry) }
+            → IsLineAt event.now) }
         ensures failed { OnErr result
             ((is_committed (has_journal self.old) event.now (verdict_of verdict.now) ≡ true)
-            × ((front : List ℕ) × IsFrontOfLine time event.now.entry front
+            × ((front : List ℕ) × IsFrontOfLine event.now front
             × does self.old (FailedWrite front ∷ []) self.new)) };
 
     /// Sends octets to a face.

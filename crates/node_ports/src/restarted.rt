@@ -1,13 +1,13 @@
 //! Ports that give some events of their own first.
 ghost use Rattle.std.specs.Prelude.{◌≡◌, map};
-ghost use Rattle.node_ports.specs.Memory.{plain_arrival};
+ghost use Rattle.node_ports.specs.Ports.{plain_arrival};
 
 use crate::memory::{OwnedArrival, put_event};
 use crate::ports::{Arrival, PortFault, Ports};
 use crate::serving::Turn;
 use forwarder::Verdict;
 use info_rules::Rules;
-use journal::Coming;
+use node_core::WrittenEvent;
 use std::collections::VecDeque;
 
 /// Ports that give the events of a restart first, in their order. After these, the arrivals are
@@ -48,7 +48,7 @@ impl<P: Ports + Drop> RestartedPorts<P> {
 impl<P: Ports + Drop> Ports for RestartedPorts<P> {
     ghost use Rattle.std.specs.Prelude.{map};
     ghost use Rattle.std.proofs.Common.{refl};
-    ghost use Rattle.node_ports.specs.Memory.{plain_arrival};
+    ghost use Rattle.node_ports.specs.Ports.{plain_arrival};
     ghost use Rattle.node_ports.specs.Restarted.{AreDoneRestarted};
     ghost use Rattle.node_ports.specs.Laws.{restarted_counts, restarted_goes_on, restarted_stays};
 
@@ -71,9 +71,9 @@ impl<P: Ports + Drop> Ports for RestartedPorts<P> {
     ghost stays = { λ p q steps. restarted_stays P.does P.has_journal P.stays p.ports q.ports
         (map plain_arrival p.first.items) (map plain_arrival q.first.items) steps };
 
-    fn next(&mut self, buffer: &mut [u8]) -> Result<Arrival, PortFault> {
+    fn next(&mut self, buffer: &mut [u8]) -> Result<Option<Arrival>, PortFault> {
         match self.first.pop_front() {
-            Some(event) => Ok(put_event(event, buffer)),
+            Some(event) => Ok(Some(put_event(event, buffer))),
             None => self.ports.next(buffer),
         }
     }
@@ -89,13 +89,8 @@ impl<P: Ports + Drop> Ports for RestartedPorts<P> {
         self.ports.keeps_journal()
     }
 
-    fn commit(
-        &mut self,
-        event: &Coming<'_>,
-        time: u64,
-        verdict: &Verdict,
-    ) -> Result<(), PortFault> {
-        self.ports.commit(event, time, verdict)
+    fn commit(&mut self, event: &WrittenEvent<'_>, verdict: &Verdict) -> Result<(), PortFault> {
+        self.ports.commit(event, verdict)
     }
 
     fn send(&mut self, face: u64, octets: &[u8]) -> Result<(), PortFault> {

@@ -1,15 +1,13 @@
-ghost use Rattle.std.specs.Prelude.{◌≡◌, [], ◌∷◌, ◌++◌, List, ℕ, true, IfOk, IfErr, IfSome, None, OnErr};
-ghost use Rattle.forwarder.specs.Event.{moment, plain};
-ghost use Rattle.forwarder.specs.Policy.{at_moment};
-ghost use Rattle.forwarder.specs.Wanted.{brings_wanted};
-ghost use Rattle.journal.specs.Line.{IsEventOf};
+ghost use Rattle.std.specs.Prelude.{◌≡◌, [], ◌∷◌, ◌++◌, List, ℕ, IfOk, IfErr, IfSome, None, OnErr};
+ghost use Rattle.forwarder.specs.Event.{plain};
+ghost use Rattle.node_core.specs.Script.LineWriter.{IsEventOf};
 ghost use Rattle.node_ports.specs.Ports.{LiesWithin, arrived};
 ghost use Rattle.node_ports.specs.Serving.{AreSent, EndsAfter, IsTurn, ServesAll, StopsServing};
 ghost use Rattle.node_ports.specs.Step.{FailedNext, Got, PortStep, count_of, step_of};
 
 use crate::ports::{Arrival, FRAME_ROOM, Ports};
-use forwarder::{Event, Node, Outbox, Verdict};
-use journal::{Coming, Entry};
+use forwarder::{Event, Node, Outbox, RulesAndKeys, Verdict};
+use node_core::{Files, WrittenEvent};
 use std::alloc::Global;
 use thiserror::Error;
 
@@ -170,22 +168,22 @@ pub fn serve_turn_soon<P: Ports>(
 {
     outbox.clear();
     let arrival = ports.next_soon(buffer)?;
-    Some(handle(node, ports, arrival, buffer, outbox))
+    Some(handle(node, ports, Some(arrival), buffer, outbox))
 }
 
 // Lets a node handle an arrival, and passes the result of the turn to the port's `note`.
 fn handle<P: Ports>(
     node: &mut Node,
     ports: &mut P,
-    arrival: Arrival,
+    arrival: Option<Arrival>,
     buffer: &[u8; FRAME_ROOM],
     outbox: &mut Outbox,
 ) -> Turn
-    requires fits { LiesWithin FRAME_ROOM arrival }
+    requires fits { IfSome arrival (LiesWithin FRAME_ROOM) }
     requires empty { outbox.old ≡ [] }
     ensures { (steps : List PortStep) × P.does ports.old steps ports.new
         × IsTurn (P.has_journal ports.old) node.old node.new outbox.new result
-        (step_of FRAME_ROOM (arrived arrival buffer.now) ∷ steps) }
+        (step_of FRAME_ROOM arrival buffer.now ∷ steps) }
 {
     let turn = answer(node, ports, arrival, buffer, outbox);
     ports.note(&turn, buffer, node.rules());
@@ -196,6 +194,26 @@ fn handle<P: Ports>(
 fn answer<P: Ports>(
     node: &mut Node,
     ports: &mut P,
+    arrival: Option<Arrival>,
+    buffer: &[u8; FRAME_ROOM],
+    outbox: &mut Outbox,
+) -> Turn
+    requires fits { IfSome arrival (LiesWithin FRAME_ROOM) }
+    requires empty { outbox.old ≡ [] }
+    ensures { (steps : List PortStep) × P.does ports.old steps ports.new
+        × IsTurn (P.has_journal ports.old) node.old node.new outbox.new result
+        (step_of FRAME_ROOM arrival buffer.now ∷ steps) }
+{
+    match arrival {
+        Some(arrival) => answer_event(node, ports, arrival, buffer, outbox),
+        None => Turn::End,
+    }
+}
+
+// Lets a node handle an event, and returns the result of the turn. Does not call `note`.
+fn answer_event<P: Ports>(
+    node: &mut Node,
+    ports: &mut P,
     arrival: Arrival,
     buffer: &[u8; FRAME_ROOM],
     outbox: &mut Outbox,
@@ -204,67 +222,78 @@ fn answer<P: Ports>(
     requires empty { outbox.old ≡ [] }
     ensures { (steps : List PortStep) × P.does ports.old steps ports.new
         × IsTurn (P.has_journal ports.old) node.old node.new outbox.new result
-        (step_of FRAME_ROOM (arrived arrival buffer.now) ∷ steps) }
+        (Got FRAME_ROOM (arrived arrival buffer.now) ∷ steps) }
 {
     match arrival {
-        Arrival::End => Turn::End,
-        Arrival::Packet { face, now, len } => {
-            let octets = &buffer[..len];
-            let event = Event::Packet { face, now, octets };
-            handle_event(node, ports, event, &Entry::Packet { face, octets }, outbox)
-        }
-        Arrival::FaceUp { face, scope, now } => {
-            let event = Event::FaceUp { face, scope, now };
-            handle_event(node, ports, event, &Entry::FaceUp { face, scope }, outbox)
-        }
-        Arrival::FaceDown { face, now } => {
-            let event = Event::FaceDown { face, now };
-            handle_event(node, ports, event, &Entry::FaceDown { face }, outbox)
-        }
-        Arrival::Tick { now } => {
-            handle_event(node, ports, Event::Tick { now }, &Entry::Tick, outbox)
-        }
-        Arrival::NewRules { renewal, now } => {
-            let (rules, keys, files) = renewal.into_parts();
-            let entry = Entry::NewRules {
-                rules: &files.rules,
-                keys: &files.keys,
-            };
+        Event::Packet { face, now, octets } => {
+            let octets = &buffer[..octets];
+            let written = Event::Packet { face, now, octets };
             handle_event(
                 node,
                 ports,
-                Event::NewRules { rules, keys, now },
-                &entry,
+                Event::Packet { face, now, octets },
+                written,
                 outbox,
             )
+        }
+        Event::FaceUp { face, scope, now } => {
+            let written = Event::FaceUp { face, scope, now };
+            handle_event(
+                node,
+                ports,
+                Event::FaceUp { face, scope, now },
+                written,
+                outbox,
+            )
+        }
+        Event::FaceDown { face, now } => {
+            let written = Event::FaceDown { face, now };
+            handle_event(node, ports, Event::FaceDown { face, now }, written, outbox)
+        }
+        Event::Tick { now } => {
+            handle_event(
+                node,
+                ports,
+                Event::Tick { now },
+                Event::Tick { now },
+                outbox,
+            )
+        }
+        Event::NewRules { rules, now } => {
+            let (rules, keys, files) = rules.into_parts();
+            let written = Event::NewRules {
+                rules: Files {
+                    rules: &files.rules,
+                    keys: &files.keys,
+                },
+                now,
+            };
+            let rules = RulesAndKeys { rules, keys };
+            handle_event(node, ports, Event::NewRules { rules, now }, written, outbox)
         }
     }
 }
 
 // Lets a node answer an event, and commits the event to the port's journal before the packets of
-// the event are sent.
+// the event are sent. `written` is the event as the journal has it.
 fn handle_event<P: Ports>(
     node: &mut Node,
     ports: &mut P,
-    event: Event<'_>,
-    entry: &Entry<'_>,
+    event: Event<&[u8], RulesAndKeys>,
+    written: WrittenEvent<'_>,
     outbox: &mut Outbox,
 ) -> Turn
-    requires entry { IsEventOf (moment (plain event)) entry.now (plain event) }
+    requires written { IsEventOf written (plain event) }
     requires empty { outbox.old ≡ [] }
     ensures { (steps : List PortStep) × P.does ports.old steps ports.new
         × IsTurn (P.has_journal ports.old) node.old node.new outbox.new result
         (Got FRAME_ROOM (plain event.entry) ∷ steps) }
 {
-    let coming = Coming {
-        entry: *entry,
-        is_wanted: is_wanted(node, ports, &event),
-    };
     let verdict = match node.step(event, outbox) {
         Ok(verdict) => verdict,
         Err(_) => return Turn::Refused,
     };
-    match ports.commit(&coming, node.now(), &verdict) {
+    match ports.commit(&written.at(node.now()), &verdict) {
         Ok(()) => {
             let failed = send_all(ports, outbox);
             Turn::Done { verdict, failed }
@@ -274,19 +303,6 @@ fn handle_event<P: Ports>(
             Turn::Unwritten
         }
     }
-}
-
-// Returns whether the event brings a Data that the repository wants. Returns `false` if the port
-// has no journal.
-fn is_wanted<P: Ports>(node: &Node, ports: &P, event: &Event<'_>) -> bool
-    ensures { P.has_journal ports.now ≡ true
-        → result ≡ brings_wanted (at_moment node.now.policy (moment (plain event.now)))
-        (plain event.now) }
-{
-    if !ports.keeps_journal() {
-        return false;
-    }
-    node.wants(event)
 }
 
 // Sends the packets of the outbox, and returns the number of failed sends.

@@ -4,16 +4,16 @@ ghost use Rattle.std.specs.Option.{option_or};
 ghost use Rattle.std.specs.declared.net.socket_addr.SocketAddr.{SocketAddr};
 ghost use Rattle.node_ports.specs.Endpoints.{AreLocalhostAt, IsLocalhostAt};
 ghost use Rattle.node_ports.specs.KnownEndpoints.{endpoint_at};
-ghost use Rattle.node_ports.specs.Ports.{LiesWithin, arrived};
-ghost use Rattle.node_ports.specs.Step.{count_after, failures_in, one_more, step_of};
+ghost use Rattle.node_ports.specs.Ports.{Arrival, LiesWithin, arrived};
+ghost use Rattle.node_ports.specs.Step.{Got, count_after, failures_in, one_more, step_of};
 ghost use Rattle.node_ports.specs.Udp.{Brings, DropsStrangers, FailsReceiving, GivesWaiting, BringsAfterClosing, HasOpened, IsAccepted, Listens, OpensPeer, UdpGives, bound_to, closes_after, kept, waiting_at};
 
 use crate::known_endpoints::{KnownEndpoints, Met};
 use crate::ports::{Arrival, FRAME_ROOM, PortFault, Ports, put_front};
 use crate::serving::Turn;
-use forwarder::{MAX_FACES, Scope, Verdict};
+use forwarder::{Event, MAX_FACES, Scope, Verdict};
 use info_rules::Rules;
-use journal::Coming;
+use node_core::WrittenEvent;
 use std::marker::Model;
 use std::net::{Ipv4Addr, Net, SocketAddr, SocketAddrV4, UdpSocket};
 use std::time::Duration;
@@ -40,7 +40,7 @@ pub trait Moments: Drop {
 /// that is not stored gives two arrivals: the opening of a face and the packet. These two have a
 /// face number that no open face has: 65 if no face has closed. A node with 64 faces does not open
 /// this face. The number of an opened face is never used for another face, unless it is the
-/// greatest u64. The ports never return `End`.
+/// greatest u64. The arrivals never end.
 ///
 /// After a call of `close_after`, the faces of idle clients close, and the face of a client may
 /// close to make room for an unknown endpoint. A peer's face never closes. After a call of
@@ -257,7 +257,11 @@ impl<M: Moments> UdpPorts<M> {
         self.known.hear_client(endpoint, now);
         let len = put_front(&self.octets[..self.len], buffer);
         self.waiting = None;
-        Arrival::Packet { face, now, len }
+        Event::Packet {
+            face,
+            now,
+            octets: len,
+        }
     }
 
     /// Handles the datagram that waited while a face closed. Returns the next arrival: the datagram
@@ -274,7 +278,11 @@ impl<M: Moments> UdpPorts<M> {
             Met::Face(face) => {
                 let len = put_front(&self.octets[..self.len], buffer);
                 self.waiting = None;
-                Arrival::Packet { face, now, len }
+                Event::Packet {
+                    face,
+                    now,
+                    octets: len,
+                }
             }
             Met::Opening(face) => {
                 self.waiting = Some(Waiting {
@@ -283,7 +291,7 @@ impl<M: Moments> UdpPorts<M> {
                 });
                 far_face(face, now)
             }
-            Met::Closing(face) => Arrival::FaceDown { face, now },
+            Met::Closing(face) => Event::FaceDown { face, now },
         }
     }
 
@@ -309,7 +317,7 @@ impl<M: Moments> UdpPorts<M> {
         } else {
             Scope::Far
         };
-        Arrival::FaceUp {
+        Event::FaceUp {
             face,
             scope,
             now: self.now(),
@@ -327,14 +335,18 @@ impl<M: Moments> UdpPorts<M> {
     {
         let now = self.now();
         match self.known.meet(endpoint, now) {
-            Met::Face(face) => Arrival::Packet { face, now, len },
+            Met::Face(face) => Event::Packet {
+                face,
+                now,
+                octets: len,
+            },
             Met::Opening(face) => {
                 self.keep(endpoint, Some(face), &buffer[..len]);
                 far_face(face, now)
             }
             Met::Closing(face) => {
                 self.keep(endpoint, None, &buffer[..len]);
-                Arrival::FaceDown { face, now }
+                Event::FaceDown { face, now }
             }
         }
     }
@@ -438,15 +450,17 @@ impl<M: Moments> Ports for UdpPorts<M> {
 
     ghost stays = { λ u v steps h. refl };
 
-    fn next(&mut self, buffer: &mut [u8]) -> Result<Arrival, PortFault>
-        ensures fits { IfOk result (LiesWithin (length buffer.new)) }
+    fn next(&mut self, buffer: &mut [u8]) -> Result<Option<Arrival>, PortFault>
+        ensures fits { IfOk result
+            (λ arrival. IfSome arrival (LiesWithin (length buffer.new))) }
         ensures came { IfOk result (λ arrival. self.new.failures ≡ count_after self.old.failures
-            (failures_in (step_of (length buffer.new) (arrived arrival buffer.new) ∷ []))) }
-        ensures gives { IfOk result (UdpGives self.old self.new buffer.new) }
+            (failures_in (step_of (length buffer.new) arrival buffer.new ∷ []))) }
+        ensures gives { IfOk result (λ given. (arrival : Arrival) × (given ≡ Some arrival)
+            × UdpGives self.old self.new buffer.new arrival) }
         ensures failed { OnErr result (FailsReceiving self.old self.new) }
     {
         match self.take(buffer, false) {
-            Some(arrival) => Ok(arrival),
+            Some(arrival) => Ok(Some(arrival)),
             None => Err(self.fail()),
         }
     }
@@ -454,7 +468,7 @@ impl<M: Moments> Ports for UdpPorts<M> {
     fn next_soon(&mut self, buffer: &mut [u8]) -> Option<Arrival>
         ensures fits { IfSome result (LiesWithin (length buffer.new)) }
         ensures came { IfSome result (λ arrival. self.new.failures ≡ count_after self.old.failures
-            (failures_in (step_of (length buffer.new) (arrived arrival buffer.new) ∷ []))) }
+            (failures_in (Got (length buffer.new) (arrived arrival buffer.new) ∷ []))) }
         ensures gives { IfSome result (UdpGives self.old self.new buffer.new) }
         ensures rests { result ≡ None → self.new.failures ≡ self.old.failures }
         ensures none { result ≡ None → Listens self.old × DropsStrangers self.old self.new }
@@ -467,12 +481,7 @@ impl<M: Moments> Ports for UdpPorts<M> {
     }
 
     // These ports have no journal.
-    fn commit(
-        &mut self,
-        _event: &Coming<'_>,
-        _time: u64,
-        _verdict: &Verdict,
-    ) -> Result<(), PortFault> {
+    fn commit(&mut self, _event: &WrittenEvent<'_>, _verdict: &Verdict) -> Result<(), PortFault> {
         Ok(())
     }
 
@@ -501,9 +510,9 @@ impl<M: Moments> Ports for UdpPorts<M> {
 
 /// Returns the arrival that opens a Far face for an endpoint that is not a peer.
 fn far_face(face: u64, now: u64) -> Arrival
-    ensures { result ≡ Arrival.FaceUp face Scope.Far now }
+    ensures { result ≡ Event.FaceUp face Scope.Far now }
 {
-    Arrival::FaceUp {
+    Event::FaceUp {
         face,
         scope: Scope::Far,
         now,

@@ -1,4 +1,4 @@
-ghost use Rattle.std.specs.Prelude.{◌≡◌, ◌+◌, ◌≤◌, ℕ, List, true, false, nat_lt, None, Some, IfOk, IfSome, IsOk, IsTrue, OnErr, OnOk, length};
+ghost use Rattle.std.specs.Prelude.{◌≡◌, ◌+◌, ◌≤◌, ℕ, List, true, false, None, Some, IfOk, IfSome, IsOk, IsTrue, OnErr, OnOk, length};
 ghost use Rattle.std.specs.FinMap as map;
 ghost use Rattle.std.specs.Option.{option_map};
 ghost use Rattle.sha2.specs.Sha256.{sha256};
@@ -189,25 +189,6 @@ impl Repo {
         self.wants.fill(packet);
         self.objects.put(object);
         Ok(true)
-    }
-
-    /// Returns whether the repository has wants.
-    pub fn has_wants(&self) -> bool
-        ensures exact { result ≡ nat_lt 0 (map.len self.now.held.wants) }
-        // A repository without wants does not want any Data.
-        ensures none { result ≡ false → (name : List Field) (digest : List ℕ) (now : ℕ)
-            → is_wanted name digest (wants_after now self.now.held.wants) ≡ false }
-    {
-        self.wants.len() > 0
-    }
-
-    /// Returns whether the repository wants the Data at the time `now`, in milliseconds since 1970.
-    /// Wants that have expired by `now` do not count.
-    pub fn wants(&self, packet: &Data<'_>, now: u64) -> bool
-        ensures { result ≡ is_wanted (components packet.now.name) (sha256 packet.now.whole.now)
-            (wants_after now self.now.held.wants) }
-    {
-        self.wants.will_be_filled_by(packet, now)
     }
 
     /// Returns the octets of the stored Data that answers the Interest, or `None` if no stored Data

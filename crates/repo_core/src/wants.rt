@@ -105,20 +105,6 @@ impl Wants {
         false
     }
 
-    /// Returns whether the Data is wanted at the time `now`. Wants that have expired by `now` do
-    /// not count.
-    pub fn will_be_filled_by(&self, packet: &Data<'_>, now: u64) -> bool
-        ensures { result ≡ is_wanted (components packet.now.name) (sha256 packet.now.whole.now)
-            (wants_after now self.now) }
-    {
-        for row in &self.rows {
-            if now < row.1 && packet.answers(row.0.0.view(), row.0.1) {
-                return true;
-            }
-        }
-        false
-    }
-
     /// Removes all wants that the Data answers.
     pub fn fill(&mut self, packet: &Data<'_>)
         ensures { self.new

@@ -3,36 +3,41 @@
 
 use super::journalled::MemoryFile;
 use super::on_node;
-use journal::{
-    Coming, Entry, ReplayFault, Replayed, append_event, are_last_rules, last_rules, line_of, replay,
-};
-use node_core::{DropReason, Node, Scope, Verdict};
+use info_rules::RuleNo;
+use journal::{ReplayFault, Replayed, append_event, are_last_rules, last_rules, replay};
+use node_core::{DropReason, Event, Files, Node, Scope, Verdict, WrittenEvent, event_line};
 use std::alloc::Global;
 use std::io;
 use std::io::{BufRead, BufReader, ErrorKind, Read};
 
-/// Returns whether `line` is the journal line of `entry` at the time 1000.
-fn is_line(alloc: Global, entry: &Entry<'_>, line: &str) -> bool {
-    line_of(alloc, 1000, entry).is_ok_and(|text| text.as_str() == line)
+/// Returns whether `line` is the line of the event.
+fn is_line(alloc: Global, event: &WrittenEvent<'_>, line: &str) -> bool {
+    event_line(alloc, event).is_ok_and(|text| text.as_str() == line)
+}
+
+/// Returns the event that opens the Local face 1 at the time 1000.
+fn opening() -> WrittenEvent<'static> {
+    Event::FaceUp {
+        face: 1,
+        scope: Scope::Local,
+        now: 1000,
+    }
 }
 
 #[test]
 fn lines_of_faces(rt: HostRuntime) {
-    let opens = Entry::FaceUp {
-        face: 1,
-        scope: Scope::Local,
-    };
-    assert!(rt; is_line(rt.alloc(), &opens, "up 1 local 1000\n"));
-    let closes = Entry::FaceDown { face: 7 };
+    assert!(rt; is_line(rt.alloc(), &opening(), "up 1 local 1000\n"));
+    let closes = Event::FaceDown { face: 7, now: 1000 };
     assert!(rt; is_line(rt.alloc(), &closes, "down 7 1000\n"));
-    assert!(rt; is_line(rt.alloc(), &Entry::Tick, "tick 1000\n"));
+    assert!(rt; is_line(rt.alloc(), &Event::Tick { now: 1000 }, "tick 1000\n"));
 }
 
 #[test]
 fn lines_of_octets(rt: HostRuntime) {
-    let packet = Entry::Packet {
+    let packet = Event::Packet {
         face: 2,
-        octets: b"\x05\x0b\x07\x03\x08\x01A\x0a\x04\x01\x02\x03\x04",
+        now: 1000,
+        octets: b"\x05\x0b\x07\x03\x08\x01A\x0a\x04\x01\x02\x03\x04".as_slice(),
     };
     assert!(rt;
         is_line(
@@ -41,9 +46,12 @@ fn lines_of_octets(rt: HostRuntime) {
             "in 2 1000 050b07030801410a0401020304\n"
         )
     );
-    let rules = Entry::NewRules {
-        rules: b"",
-        keys: b"/A 6b\n",
+    let rules = Event::NewRules {
+        rules: Files {
+            rules: b"",
+            keys: b"/A 6b\n",
+        },
+        now: 1000,
     };
     assert!(rt; is_line(rt.alloc(), &rules, "rules 1000 - 2f412036620a\n"));
 }
@@ -51,14 +59,17 @@ fn lines_of_octets(rt: HostRuntime) {
 /// Returns whether a line can be made for new rules of `len` octets.
 fn has_line(alloc: Global, len: usize) -> Option<bool> {
     let rules = vec![in alloc; b';'; len].ok()?;
-    let entry = Entry::NewRules {
-        rules: &rules,
-        keys: b"",
+    let event = Event::NewRules {
+        rules: Files {
+            rules: &rules,
+            keys: b"",
+        },
+        now: 1000,
     };
-    Some(line_of(alloc, 1000, &entry).is_ok())
+    Some(event_line(alloc, &event).is_ok())
 }
 
-/// A line of a journal has at most 20,000 octets, not counting its LF. The lines of this test
+/// A line of a script has at most 20,000 octets, not counting its LF. The lines of this test
 /// consist of `rules 1000 `, the octets of the rules in hexadecimal, and ` -`.
 #[test]
 fn longest_lines(rt: HostRuntime) {
@@ -66,43 +77,61 @@ fn longest_lines(rt: HostRuntime) {
     assert!(rt; has_line(rt.alloc(), 9_994) == Some(false));
 }
 
-/// Calls `append_event` for an event and an empty file, and returns the file. The event has this
-/// verdict and the time 1000.
-fn file_after(alloc: Global, entry: Entry<'_>, verdict: Verdict) -> Option<MemoryFile> {
+/// Calls `append_event` for an event with this verdict and an empty file, and returns the file.
+fn file_after(alloc: Global, event: &WrittenEvent<'_>, verdict: Verdict) -> Option<MemoryFile> {
     let mut file = MemoryFile {
         octets: Vec::new(alloc),
         left: 1,
     };
-    let coming = Coming {
-        entry,
-        is_wanted: false,
-    };
-    append_event(alloc, &mut file, 1000, &coming, &verdict).ok()?;
+    append_event(alloc, &mut file, event, &verdict).ok()?;
     Some(file)
 }
 
 /// Returns whether `append_event` writes exactly these octets for an event with this verdict.
-fn appends(alloc: Global, entry: Entry<'_>, verdict: Verdict, octets: &[u8]) -> bool {
-    file_after(alloc, entry, verdict).is_some_and(|file| file.octets.as_slice() == octets)
+fn appends(alloc: Global, event: &WrittenEvent<'_>, verdict: Verdict, octets: &[u8]) -> bool {
+    file_after(alloc, event, verdict).is_some_and(|file| file.octets.as_slice() == octets)
 }
 
 /// The journal gets a line for the opening of a face, but no line for an opening that the node
 /// refuses.
 #[test]
 fn journal_of_an_opening(rt: HostRuntime) {
-    let opens = Entry::FaceUp {
-        face: 1,
-        scope: Scope::Local,
-    };
-    assert!(rt; appends(rt.alloc(), opens, Verdict::Passed, b"up 1 local 1000\n"));
+    assert!(rt;
+        appends(
+            rt.alloc(),
+            &opening(),
+            Verdict::Passed,
+            b"up 1 local 1000\n"
+        )
+    );
     let dropped = Verdict::Dropped(DropReason::FaceOpen);
-    assert!(rt; appends(rt.alloc(), opens, dropped, b""));
+    assert!(rt; appends(rt.alloc(), &opening(), dropped, b""));
 }
 
 /// The journal gets no line for a tick.
 #[test]
 fn journal_of_a_moment(rt: HostRuntime) {
-    assert!(rt; appends(rt.alloc(), Entry::Tick, Verdict::Passed, b""));
+    assert!(rt; appends(rt.alloc(), &Event::Tick { now: 1000 }, Verdict::Passed, b""));
+}
+
+/// The journal gets a line for an allowed Data only if the node stored it.
+#[test]
+fn journal_of_a_data(rt: HostRuntime) {
+    let data = Event::Packet {
+        face: 1,
+        now: 1000,
+        octets: b"\x06\x00".as_slice(),
+    };
+    let stored = Verdict::DataAllowed {
+        rule: RuleNo(0),
+        stored: true,
+    };
+    assert!(rt; appends(rt.alloc(), &data, stored, b"in 1 1000 0600\n"));
+    let passed_on = Verdict::DataAllowed {
+        rule: RuleNo(0),
+        stored: false,
+    };
+    assert!(rt; appends(rt.alloc(), &data, passed_on, b""));
 }
 
 /// Returns whether replaying a text on a node has this result.

@@ -3,7 +3,7 @@ use super::{on_node, rules};
 use hmac_keys::KeyBook;
 use info_rules::Rules;
 use ndn_names::NameBuf;
-use node_core::{Event, Node, NodeFault, NodeParts, Outbox, Scope, Verdict};
+use node_core::{Event, Node, NodeFault, NodeParts, Outbox, RulesAndKeys, Scope, Verdict};
 use std::alloc::Global;
 use test_support::first_wrong;
 
@@ -128,7 +128,7 @@ fn rules_of_a_node(rt: HostRuntime) {
 }
 
 /// Returns the event of a packet on face 1.
-fn packet(now: u64, octets: &[u8]) -> Event<'_> {
+fn packet(now: u64, octets: &[u8]) -> Event<&[u8], RulesAndKeys> {
     Event::Packet {
         face: 1,
         now,
@@ -173,39 +173,49 @@ fn time_and_faces_of_a_node(rt: HostRuntime) {
     assert!(rt; tells_time_and_faces(rt.alloc()) == Some(true));
 }
 
-/// Returns whether a node wants a Data at this moment.
-fn wants_at(node: &Node, now: u64, data: &[u8]) -> bool {
-    node.wants(&packet(now, data))
+/// Gives a node a Data that comes on face 1 at this moment. Returns whether the Data is allowed,
+/// and the verdict tells that the Data was stored, or not (`is_stored`).
+fn takes_data(
+    node: &mut Node,
+    outbox: &mut Outbox,
+    now: u64,
+    data: &[u8],
+    is_stored: bool,
+) -> bool {
+    matches!(
+        node.step(packet(now, data), outbox),
+        Ok(Verdict::DataAllowed { stored, .. }) if stored == is_stored
+    )
 }
 
-/// Returns whether a node wants the Data `wanted` one millisecond before the deadline of the insert
-/// command, but not at the deadline. The node must not want the Data `other`.
-fn wants_first(node: &Node, wanted: &[u8], other: &[u8]) -> bool {
-    wants_at(node, 1_001_099, wanted)
-        && !wants_at(node, 1_001_099, other)
-        && !wants_at(node, 1_001_100, wanted)
-}
-
-/// Returns whether a node wants the Data of the insert command one millisecond before the deadline,
-/// but not at the deadline. No command asked for the Data `D_B`, so the node must not want `D_B`.
-fn wants_inserted(alloc: Global, node: &Node) -> bool {
+/// Gives a node a command to insert the Data `D_A`. Then gives the node Data. Only the first `D_A`
+/// before the deadline is stored: the Data `D_B` and a second `D_A` are not.
+fn stores_once(alloc: Global, node: &mut Node) -> bool {
     let wanted = octets_of(alloc, "D_A");
     let other = octets_of(alloc, "D_B");
-    wants_first(node, &wanted, &other)
+    let mut outbox = Outbox::new(alloc);
+    takes_insert(alloc, node)
+        && takes_data(node, &mut outbox, 1_001_099, &other, false)
+        && takes_data(node, &mut outbox, 1_001_099, &wanted, true)
+        && takes_data(node, &mut outbox, 1_001_099, &wanted, false)
 }
 
-/// Gives a node an insert command. Returns whether the node then wants the Data of the command
-/// before the deadline, but not at the deadline.
-fn wants_after_insert(alloc: Global, node: &mut Node) -> bool {
-    takes_insert(alloc, node) && wants_inserted(alloc, node)
-}
-
-/// Returns what `wants_after_insert` returns for a new node.
-fn wants_in_time(alloc: Global) -> Option<bool> {
-    on_node(alloc, &|alloc, node| Some(wants_after_insert(alloc, node)))
+/// Gives a node a command to insert the Data `D_A`, and then the Data at the command's deadline.
+/// Returns whether the Data is not stored.
+fn stores_nothing_at_the_deadline(alloc: Global, node: &mut Node) -> bool {
+    let wanted = octets_of(alloc, "D_A");
+    takes_insert(alloc, node)
+        && takes_data(node, &mut Outbox::new(alloc), 1_001_100, &wanted, false)
 }
 
 #[test]
-fn data_that_a_node_wants(rt: HostRuntime) {
-    assert!(rt; wants_in_time(rt.alloc()) == Some(true));
+fn data_that_a_node_stores(rt: HostRuntime) {
+    let alloc = rt.alloc();
+    assert!(rt; on_node(alloc, &|alloc, node| Some(stores_once(alloc, node))) == Some(true));
+    assert!(rt;
+        on_node(
+            alloc,
+            &|alloc, node| Some(stores_nothing_at_the_deadline(alloc, node))
+        ) == Some(true)
+    );
 }

@@ -1,6 +1,6 @@
 use super::{on_node, spelled};
 use hmac_keys::KeyBook;
-use node_core::{Node, Outbox, Scope, put_refused, put_sends, put_verdict, read_rules};
+use node_core::{Event, Node, Outbox, Scope, put_refused, put_sends, put_verdict, read_rules};
 use node_ports::{
     FileOctets, MemoryPorts, OwnedArrival, Ports, Renewal, ServeFault, Served, Turn, serve,
     serve_turn,
@@ -61,7 +61,10 @@ fn new_rules_arrival(alloc: Global, line: &str, now: u64) -> Option<OwnedArrival
     let rules = packet_of(alloc, word(line, 2))?;
     let keys = packet_of(alloc, word(line, 3))?;
     let renewal = renewal_of(alloc, rules, keys)?;
-    Some(OwnedArrival::NewRules { renewal, now })
+    Some(Event::NewRules {
+        rules: renewal,
+        now,
+    })
 }
 
 /// Returns the arrival that a line of a script spells, or `None` if a part of the line cannot be
@@ -69,18 +72,18 @@ fn new_rules_arrival(alloc: Global, line: &str, now: u64) -> Option<OwnedArrival
 fn arrival_of(alloc: Global, line: &str) -> Option<OwnedArrival> {
     let face = number(line, 1)?;
     match word(line, 0) {
-        "up" => Some(OwnedArrival::FaceUp {
+        "up" => Some(Event::FaceUp {
             face,
             scope: scope_of(word(line, 2)),
             now: number(line, 3)?,
         }),
-        "down" => Some(OwnedArrival::FaceDown {
+        "down" => Some(Event::FaceDown {
             face,
             now: number(line, 2)?,
         }),
-        "tick" => Some(OwnedArrival::Tick { now: face }),
+        "tick" => Some(Event::Tick { now: face }),
         "rules" => new_rules_arrival(alloc, line, face),
-        _ => Some(OwnedArrival::Packet {
+        _ => Some(Event::Packet {
             face,
             now: number(line, 2)?,
             octets: packet_of(alloc, word(line, 3))?,

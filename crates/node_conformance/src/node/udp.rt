@@ -3,10 +3,10 @@
 use super::octets::octets_of;
 use super::on_node;
 use ndn_packets::PacketFault;
-use node_core::{DropReason, Node, Outbox, Scope, Verdict};
+use node_core::{DropReason, Event, Node, Outbox, Scope, Verdict};
 use node_ports::{
-    Arrival, FRAME_ROOM, Moments, Ports, Served, Turn, UdpPorts, receive_one, send_one, serve,
-    serve_turn, serve_turn_soon,
+    FRAME_ROOM, Moments, Ports, Served, Turn, UdpPorts, receive_one, send_one, serve, serve_turn,
+    serve_turn_soon,
 };
 use std::alloc::Global;
 use std::cell::Cell;
@@ -387,7 +387,7 @@ fn udp_port_taken(rt: HostRuntime) {
 pub fn brings_face<M: Moments>(ports: &mut UdpPorts<M>, opened: u64, at: u64) -> bool {
     matches!(
         ports.next(&mut [0; 100]),
-        Ok(Arrival::FaceUp { face, scope: Scope::Far, now }) if face == opened && now == at
+        Ok(Some(Event::FaceUp { face, scope: Scope::Far, now })) if face == opened && now == at
     )
 }
 
@@ -400,7 +400,7 @@ pub fn brings_packet<M: Moments>(
 ) -> bool {
     matches!(
         ports.next(&mut [0; 100]),
-        Ok(Arrival::Packet { face, now, len }) if face == from && now == at && len == count
+        Ok(Some(Event::Packet { face, now, octets })) if face == from && now == at && octets == count
     )
 }
 
@@ -483,7 +483,7 @@ fn udp_hears_loopback_alone(rt: HostRuntime) {
 fn brings_end<M: Moments>(ports: &mut UdpPorts<M>, closed: u64, at: u64) -> bool {
     matches!(
         ports.next(&mut [0; 100]),
-        Ok(Arrival::FaceDown { face, now }) if face == closed && now == at
+        Ok(Some(Event::FaceDown { face, now })) if face == closed && now == at
     )
 }
 

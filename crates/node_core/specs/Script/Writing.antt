@@ -39,7 +39,7 @@ abbrev pub verdict_text : List PlainRule → Verdict → List ℕ
 verdict_text rules Passed = codes "passed"
 verdict_text rules (Allowed rule status) =
     codes "allowed " ++ (decimal status ++ (32 ∷ id_of rules rule))
-verdict_text rules (DataAllowed rule) = codes "data " ++ id_of rules rule
+verdict_text rules (DataAllowed rule stored) = codes "data " ++ id_of rules rule
 verdict_text rules (Denied kind rule reason) =
     codes "denied " ++ (kind_name kind ++ (32 ∷ (reason_name reason ++ (32 ∷ id_of rules rule))))
 verdict_text rules (NoRule kind) = codes "no-rule " ++ kind_name kind

@@ -6,7 +6,7 @@ ghost use Rattle.node_core.specs.Script.Line.{LineSpells, LineIs, SpellsKeys, Sp
 
 use crate::files::read_rules;
 use crate::script::word::{cut, octets_of, parse_decimal, scope_of, three_words};
-use forwarder::OwnedEvent;
+use forwarder::{Event, OwnedEvent, RulesAndKeys};
 use hmac_keys::{KeyBook, KeyFault};
 use info_rules::{Rules, RulesFaultKind};
 use ndn_tlv::Memory;
@@ -79,7 +79,7 @@ fn face_up(text: &[u8]) -> Option<OwnedEvent>
     let face = parse_decimal(face)?;
     let scope = scope_of(scope)?;
     let now = parse_decimal(now)?;
-    Some(OwnedEvent::FaceUp { face, scope, now })
+    Some(Event::FaceUp { face, scope, now })
 }
 
 fn face_down(text: &[u8]) -> Option<OwnedEvent>
@@ -91,7 +91,7 @@ fn face_down(text: &[u8]) -> Option<OwnedEvent>
     let (face, now) = cut(text, b' ')?;
     let face = parse_decimal(face)?;
     let now = parse_decimal(now)?;
-    Some(OwnedEvent::FaceDown { face, now })
+    Some(Event::FaceDown { face, now })
 }
 
 fn tick(text: &[u8]) -> Option<OwnedEvent>
@@ -101,7 +101,7 @@ fn tick(text: &[u8]) -> Option<OwnedEvent>
         ((event : PlainEvent) → LineSpells event (codes "tick" ++ (32 ∷ text.now)) → ⊥) }
 {
     let now = parse_decimal(text)?;
-    Some(OwnedEvent::Tick { now })
+    Some(Event::Tick { now })
 }
 
 fn packet(alloc: Global, text: &[u8]) -> Result<Option<OwnedEvent>, Memory>
@@ -122,7 +122,7 @@ fn packet(alloc: Global, text: &[u8]) -> Result<Option<OwnedEvent>, Memory>
         return Ok(None);
     };
     match octets_of(alloc, word)? {
-        Some(octets) => Ok(Some(OwnedEvent::Packet { face, now, octets })),
+        Some(octets) => Ok(Some(Event::Packet { face, now, octets })),
         None => Ok(None),
     }
 }
@@ -145,7 +145,10 @@ fn new_rules(alloc: Global, text: &[u8]) -> Result<Option<OwnedEvent>, Memory>
         return Ok(None);
     };
     match keys_of(alloc, keys)? {
-        Some(keys) => Ok(Some(OwnedEvent::NewRules { rules, keys, now })),
+        Some(keys) => Ok(Some(Event::NewRules {
+            rules: RulesAndKeys { rules, keys },
+            now,
+        })),
         None => Ok(None),
     }
 }

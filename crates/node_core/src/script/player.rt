@@ -13,7 +13,7 @@ use crate::script::input::read_some;
 use crate::script::line::{LONGEST_LINE, Line, line_of};
 use crate::script::output::put_all;
 use crate::script::word::cut_line;
-use forwarder::{Node, Outbox, OwnedEvent};
+use forwarder::{Node, Outbox, OwnedEvent, lend};
 use std::alloc::Global;
 use std::io::{Read, Write};
 
@@ -239,7 +239,7 @@ impl Player {
     {
         self.outbox.clear();
         let mut octets = Vec::new(self.alloc);
-        let event = event.into_event(&mut octets);
+        let event = lend(event, &mut octets);
         let outcome = self.node.step(event, &mut self.outbox);
         self.events += 1;
         let put = put_answer(

@@ -7,5 +7,5 @@ returns-in-Err-clause-stopped c = unharmed c.args.node.now
 
 pub returns-in-Ok-clause-played : goal.returns-in-Ok-clause-played
 returns-in-Ok-clause-played c =
-    plays_step c.args.line.now (plain c.into_event.result) c.in-Ok.field-0 c.clear.new.self c.step.new.outbox c.args.node.now c.step.new.self c.requires
-    (rw c.into_event.ensures (rw c.in-Ok-Event.field-0-is at c.in-Ok-Event.ensures)) (c.step.ensures.octets, c.step.ensures.keys) c.in-Ok.ensures.answered
+    plays_step c.args.line.now (plain c.lend.result) c.in-Ok.field-0 c.clear.new.self c.step.new.outbox c.args.node.now c.step.new.self c.requires
+    (rw (c.lend.ensures (λ r. r.rules) (λ r. r.keys)) (rw c.in-Ok-Event.field-0-is at c.in-Ok-Event.ensures)) (c.step.ensures.octets, c.step.ensures.keys) c.in-Ok.ensures.answered

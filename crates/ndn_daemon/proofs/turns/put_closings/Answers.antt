@@ -1,7 +1,7 @@
 use Rattle.std.proofs.Common.{◌≡◌, ◌++◌, ◌+◌, ◌∙◌, ℕ, List, suc, arith, append_assoc, ap, sym, map, length, take}
 use Rattle.std.specs.Prelude.{slice_get}
 use Rattle.forwarder.specs.Event.{PlainEvent}
-use Rattle.node_ports.specs.Memory.{plain_arrival}
+use Rattle.node_ports.specs.Ports.{plain_arrival}
 use Rattle.ndn_daemon.specs.Restart.{closing, closings}
 use Rattle.ndn_daemon.proofs.Restarting.{closings_next}
 use Rattle.ndn_daemon.proofs.turns.put_closings.Goals as goal

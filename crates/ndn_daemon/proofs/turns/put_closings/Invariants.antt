@@ -1,5 +1,5 @@
 use Rattle.std.proofs.Common.{◌≡◌, ◌++◌, length, map, take}
-use Rattle.node_ports.specs.Memory.{plain_arrival}
+use Rattle.node_ports.specs.Ports.{plain_arrival}
 use Rattle.ndn_daemon.specs.Restart.{closings}
 use Rattle.ndn_daemon.proofs.turns.put_closings.Given as goal
 

@@ -1,6 +1,6 @@
 use Rattle.std.proofs.Common.{inl, map, refl}
 use Rattle.node_ports.specs.Journalled.{of_ports}
-use Rattle.node_ports.specs.Memory.{plain_arrival}
+use Rattle.node_ports.specs.Ports.{plain_arrival}
 use Rattle.ndn_daemon.proofs.Watching.{restart_goes}
 use Rattle.ndn_daemon.proofs.turns.run_restored.Goals as goal
 

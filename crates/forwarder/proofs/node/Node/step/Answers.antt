@@ -58,7 +58,7 @@ invariant_of-self-in-Tick c = (
 pub invariant_of-self-in-NewRules : goal.invariant_of-self-in-NewRules
 invariant_of-self-in-NewRules c = (
   step_sound _ _ _ _ c.self.invariant.0 c.replace_rules.ensures.step,
-  undecided_stores (state_of c.self.inside.state).policy (state_of c.replace_rules.new.self).policy (NewRules c.in-NewRules.rules c.in-NewRules.keys c.in-NewRules.now)
+  undecided_stores (state_of c.self.inside.state).policy (state_of c.replace_rules.new.self).policy (NewRules c.in-NewRules.rules.rules c.in-NewRules.rules.keys c.in-NewRules.now)
       c.replace_rules.ensures.step.policy c.self.invariant.1,
   step_store (state_of c.self.inside.state) (state_of c.replace_rules.new.self) _ _ tt c.self.invariant.2 c.replace_rules.ensures.step,
 )
@@ -98,7 +98,7 @@ pub returns-in-NewRules-clause-run : goal.returns-in-NewRules-clause-run
 returns-in-NewRules-clause-run c =
     rw (← c.self.view_is, ← c.outbox.view_is, c.in-NewRules.is)
     (goes_on (state_of c.self.inside.state) (state_of c.replace_rules.new.self) c.outbox.inside.sends.sends c.outbox.inside.sends.sends
-    (NewRules c.in-NewRules.rules c.in-NewRules.keys c.in-NewRules.now) c.replace_rules.result (stays_quiet _ _ _ _ c.replace_rules.result c.replace_rules.ensures.step))
+    (NewRules c.in-NewRules.rules.rules c.in-NewRules.rules.keys c.in-NewRules.now) c.replace_rules.result (stays_quiet _ _ _ _ c.replace_rules.result c.replace_rules.ensures.step))
 
 pub returns-in-Packet-clause-headline : goal.returns-in-Packet-clause-headline
 returns-in-Packet-clause-headline c =
@@ -129,7 +129,7 @@ pub returns-in-NewRules-clause-headline : goal.returns-in-NewRules-clause-headli
 returns-in-NewRules-clause-headline c =
     rw (← c.self.view_is, ← c.outbox.view_is, c.in-NewRules.is)
     (extends_headline (state_of c.self.inside.state) (state_of c.replace_rules.new.self) c.outbox.inside.sends.sends c.outbox.inside.sends.sends
-    (NewRules c.in-NewRules.rules c.in-NewRules.keys c.in-NewRules.now) c.replace_rules.result tt c.replace_rules.ensures.apart (stays_quiet _ _ _ _ c.replace_rules.result c.replace_rules.ensures.step))
+    (NewRules c.in-NewRules.rules.rules c.in-NewRules.rules.keys c.in-NewRules.now) c.replace_rules.result tt c.replace_rules.ensures.apart (stays_quiet _ _ _ _ c.replace_rules.result c.replace_rules.ensures.step))
 
 pub returns-in-Packet-clause-store : goal.returns-in-Packet-clause-store
 returns-in-Packet-clause-store c =

@@ -42,7 +42,8 @@ returns c = record {
         sends.0,
         sends.1 ∙ ap (λ (before : List Send). before ++ sends.0) c.reserve.ensures.sends,
         later,
-        data_delivered was (state_of c.deliver.new.self) c.args.arrived.now.face (token_of c.args.arrived.now.token) c.args.arrived.now.packet.now.whole.now (plain_data c.args.arrived.now.packet.now) sends.0 c.args.rule
+        data_delivered was (state_of c.deliver.new.self) c.args.arrived.now.face (token_of c.args.arrived.now.token) c.args.arrived.now.packet.now.whole.now (plain_data c.args.arrived.now.packet.now) sends.0 c.args.rule c.in_ok-stored.stored
+            c.in_ok-stored.ensures.stored
             (later_scope old was c.args.arrived.now.face c.args.arrived.now.moment (components c.args.arrived.now.packet.now.name) later ∙ c.requires.scope)
             (c.requires.allowed was.policy (ap (λ (p : Policy). p.rules) later.policy) (ap (λ (p : Policy). p.keys) later.policy))
             sends.2 c.deliver.ensures.policy c.deliver.ensures.pending c.deliver.ensures.living c.deliver.ensures.cache,

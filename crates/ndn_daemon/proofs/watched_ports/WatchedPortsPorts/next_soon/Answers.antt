@@ -14,4 +14,4 @@ returns-in-Some-next_soon-clause-came g c =
     let after = c.renewed_first.new.self in
     watched_given g.P.Ports.does g.S.RuleSource.renews c.args.self.now.ports after.ports c.args.self.now.source after.source c.args.self.now.held after.held (length c.next_soon.new.buffer)
     (arrived c.in-Some-next_soon.arrival c.next_soon.new.buffer) (arrived c.renewed_first.result c.next_soon.new.buffer) (g.met.P.Ports.rests _) (g.met.S.RuleSource.rests _) (c.take.ensures.none c.in_default.is)
-    (rw c.renewed_first.ensures.ports c.in-Some-next_soon.ensures.came) c.renewed_first.ensures.ended c.renewed_first.ensures.renewed
+    (rw c.renewed_first.ensures.ports c.in-Some-next_soon.ensures.came) c.renewed_first.ensures.renewed

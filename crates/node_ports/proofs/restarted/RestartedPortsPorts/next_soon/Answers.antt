@@ -1,20 +1,22 @@
-use Rattle.std.proofs.Common.{◌≡◌, [], map, sym, ap, List, rules}
-use Rattle.node_ports.specs.declared.memory.OwnedArrival.{OwnedArrival}
-use Rattle.node_ports.specs.Memory.{plain_arrival}
+use Rattle.std.proofs.Common.{◌≡◌, [], map, sym, ap, List, ℕ, rules}
+use Rattle.std.specs.Global.{Vec}
+use Rattle.forwarder.specs.declared.event.Event.{Event}
+use Rattle.node_ports.specs.Ports.{plain_arrival}
+use Rattle.node_ports.specs.Renewal.{RenewalValue}
 use Rattle.node_ports.proofs.Wrapped.{if_some_then, restarted_none, restarted_own}
 use Rattle.node_ports.proofs.restarted.RestartedPortsPorts.next_soon.Goals as goal
 
 pub returns-in-Some-clause-came : goal.returns-in-Some-clause-came
 returns-in-Some-clause-came g c =
     restarted_own g.P.Ports.does c.args.self.now.ports _ _ (plain_arrival c.in-Some.event) _ _ (g.met.P.Ports.rests c.args.self.now.ports)
-    (ap (λ (l : List OwnedArrival). map plain_arrival l) c.in-Some.ensures.items) c.put_event.ensures.event
+    (ap (λ (l : List (Event (Vec ℕ) RenewalValue)). map plain_arrival l) c.in-Some.ensures.items) c.put_event.ensures.event
 
 pub returns-in-None-clause-came : goal.returns-in-None-clause-came
 returns-in-None-clause-came g c =
     let none : c.args.self.now.first.items ≡ [] = search rules in
     if_some_then c.next_soon.result _ _
-    (λ arrival h. restarted_none g.P.Ports.does _ _ _ _ _ (g.met.P.Ports.rests _) (ap (λ (l : List OwnedArrival). map plain_arrival l) none) (ap (λ (l : List OwnedArrival). map plain_arrival l) (sym c.in-None.ensures.items)) h)
+    (λ arrival h. restarted_none g.P.Ports.does _ _ _ _ _ (g.met.P.Ports.rests _) (ap (λ (l : List (Event (Vec ℕ) RenewalValue)). map plain_arrival l) none) (ap (λ (l : List (Event (Vec ℕ) RenewalValue)). map plain_arrival l) (sym c.in-None.ensures.items)) h)
     c.next_soon.ensures.came
 
 pub returns-in-None-clause-none : goal.returns-in-None-clause-none
-returns-in-None-clause-none g c = λ none. (c.next_soon.ensures.none none, ap (λ (l : List OwnedArrival). map plain_arrival l) (sym c.in-None.ensures.items))
+returns-in-None-clause-none g c = λ none. (c.next_soon.ensures.none none, ap (λ (l : List (Event (Vec ℕ) RenewalValue)). map plain_arrival l) (sym c.in-None.ensures.items))
