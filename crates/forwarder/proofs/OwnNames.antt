@@ -76,8 +76,8 @@ name_read value d e =
     let same : a.0.0 ≡ d.name = ap (λ (x : PlainData). x.name) (ok_is (data_with a.0.0 b.0 i.0 v.0) d v.2) in
     (a.0.1, subst (λ (n : List Field). Leads (elements_of value) n a.0.1) same (lead (elements_of value) a.0 a.1))
 
--- octets that are one element of the type of a Data, and are read as the Data `d`, have a value that
--- is read as `d`
+-- octets that are one element of the type of a Data, and are read as the Data `d`, have a value
+-- that is read as `d`
 value_read : (value : List ℕ) (d : PlainData) → length (element (6, value)) ≤ 8800 → frame_at (element (6, value)) ≡ Ok (AData (element (6, value)) d) → data_at value ≡ Ok d
 value_read value d short e =
     let whole = element (6, value) in

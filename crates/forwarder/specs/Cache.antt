@@ -60,8 +60,8 @@ IsAwaited waiting c =
     (key : PlainKey) × IsTrue (answers c.name c.digest key.name key.can_be_prefix)
     × (is_alive (records_at waiting key) ≡ true)
 
--- the store `new` is the store `old`, except that some Data may have been dropped; no Data is added,
--- none is repeated, the order of use stays, and the capacity is the same
+-- the store `new` is the store `old`, except that some Data may have been dropped; no Data is
+-- added, none is repeated, the order of use stays, and the capacity is the same
 abbrev pub MayForget : StoreState → StoreState → Type 0
 MayForget old new = LosesSome old.cached new.cached × (new.capacity ≡ old.capacity)
 

@@ -45,7 +45,7 @@ pub record Replays (old new : NodeState) (unread left : Option (List ℕ))
 -- A replay stopped with this fault, after the events of all lines before the fault were answered.
 -- `BadLine`: line `n`, counted from 1, was bad. `Read`: the reader failed, or the journal has too
 -- many lines. `Memory`: memory ran out for a line or for the step of the line's event, and the
--- cache may have dropped or reordered Data. If the octets of the reader were not known (None),
+-- cache may have dropped Data. If the octets of the reader were not known (None),
 -- nothing is stated about what was read.
 abbrev pub StopsReplay : NodeState → NodeState → Option (List ℕ) → Option (List ℕ) → ReplayFault
     → Type 0
@@ -98,7 +98,7 @@ PlaysLine line old new false = Plays (line ∷ []) [] old new
 
 -- Why a line was not replayed. `BadLine`, with the number of the line: the line is bad, and the
 -- node is unchanged. `Memory`: memory ran out, and nothing changed except that the cache may have
--- dropped or reordered Data.
+-- dropped Data.
 abbrev pub StopsLine : List ℕ → ℕ → NodeState → NodeState → ReplayFault → Type 0
 StopsLine line number old new (fault.BadLine n) =
     IsBadLine line × (n ≡ number) × (new ≡ old)

@@ -24,7 +24,7 @@ IsEvent event = BringsOctets event × BringsKeysApart event
 -- The event is valid (`IsEvent`) and has this outcome. `Answered`: a step with this answer leads
 -- from the node `old` to the node `new`. `NoMemory`: memory ran out for the event, which is
 -- possible only for an event that needs memory; in this case, nothing changed except that the cache
--- may have dropped or reordered Data.
+-- may have dropped Data (`MayForget`).
 abbrev pub IsOutcome : NodeState → PlainEvent → Outcome → NodeState → Type 0
 IsOutcome old event (Answered answer) new = IsEvent event × IsStep old event answer new
 IsOutcome old event NoMemory new =

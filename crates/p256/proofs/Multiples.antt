@@ -1,5 +1,5 @@
--- The walk through the bits of two multipliers is the sum of two multiples, if `sum` is the law of a
--- group.
+-- The walk through the bits of two multipliers is the sum of two multiples, if `sum` is the law of
+-- a group.
 use Rattle.std.proofs.Common.{◌≡◌, ℕ, ◌+◌, ◌*◌, ◌/◌, ◌%◌, ◌^◌, ◌<◌, ◌≤◌, Bool, IsTrue, subst, arith, zero, suc}
 use Rattle.std.proofs.Math.Nat.{pow-suc}
 use Rattle.p256.specs.Curve.{Triple, combined, generator, infinity, sum, with_bits}

@@ -8,8 +8,8 @@ unfoldable pub multiple : ℕ → Triple → Triple
 multiple zero p = infinity
 multiple (suc n) p = sum (multiple n p) p
 
--- `sum` is the law of a commutative group of points. `is_point` says which triples are points of the
--- curve, and `are_same` which triples are the same point. Inverses are not needed here.
+-- `sum` is the law of a commutative group of points. `is_point` says which triples are points of
+-- the curve, and `are_same` which triples are the same point. Inverses are not needed here.
 pub record IsGroupLaw (is_point : Triple → Bool) (are_same : Triple → Triple → Bool) : Type 0 where
   pub infinity_in : IsTrue (is_point infinity)
   pub generator_in : IsTrue (is_point generator)

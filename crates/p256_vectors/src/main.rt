@@ -33,8 +33,8 @@ fn word_of(key: &[u8], digest: &[u8; 32], signature: &[u8]) -> &'static str {
     }
 }
 
-/// Returns the octets that hexadecimal digits stand for, or `None` if the text is not hexadecimal or
-/// memory runs out.
+/// Returns the octets that hexadecimal digits stand for, or `None` if the text is not hexadecimal
+/// or memory runs out.
 fn octets(alloc: Global, digits: &str) -> Option<Vec<u8>> {
     hex::decode(alloc, digits).ok()
 }
