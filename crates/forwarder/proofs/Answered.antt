@@ -20,7 +20,6 @@ use Rattle.repo_core.specs.Repo.{after_offer}
 use Rattle.repo_core.specs.Wants.{Wants, is_wanted, want_cmp, wants_after}
 use Rattle.repo_core.proofs.Kept.{entries-kept}
 use Rattle.repo_core.proofs.Spares.{any_of_part}
-use Rattle.content_store.proofs.Losses.{nothing_lost}
 use Rattle.forwarder.specs.declared.state.State.{State}
 use Rattle.forwarder.specs.declared.verdict.Verdict as code
 use Rattle.forwarder.specs.Event.{Send, Token}
@@ -30,16 +29,16 @@ use Rattle.forwarder.specs.Request.{is_out_of_scope}
 use Rattle.forwarder.specs.Deciding.{IsDecidedAs}
 use Rattle.forwarder.specs.Replies.{IsSentToAskers}
 use Rattle.forwarder.specs.Handling.{HandlesPacket, IsAnswered, IsHandled, IsPacketEffect, seen_by}
-use Rattle.forwarder.specs.Cache.{CacheAfter, Inserts, MayForget, held_from}
-use Rattle.forwarder.specs.Node.{NodeState, ChangesCacheOnly}
+use Rattle.forwarder.specs.Cache.{CacheAfter, Inserts, held_from}
+use Rattle.forwarder.specs.Node.{NodeState}
 use Rattle.forwarder.specs.State.{IsLater, state_of}
 use Rattle.forwarder.proofs.Handled.{where_true, where_false}
 
 -- ---- whether memory ran out, and what advancing time leaves unchanged
 
--- if memory ran out, and only the cache changed, and nothing was sent, then `HandlesPacket` is true
+-- if memory ran out, and the node is unchanged, and nothing was sent, then `HandlesPacket` is true
 pub refused_packet : {old new : State} {before after : List Send} {face : ℕ} {token : Token} {moment : ℕ} {packet : PlainFrame} (r : Result code.Verdict Memory) → IsErr r
-    → ChangesCacheOnly (state_of old) (state_of new) × (after ≡ before) → HandlesPacket old new before after face token moment packet r
+    → (state_of new ≡ state_of old) × (after ≡ before) → HandlesPacket old new before after face token moment packet r
 refused_packet (Ok verdict) refused kept = absurd (false≢true refused)
 refused_packet (Err memory) refused kept = record { handled = tt; memory = kept }
 
@@ -49,12 +48,9 @@ pub sure_packet : {old new : State} {before after : List Send} {face : ℕ} {tok
 sure_packet (Ok verdict) done handled = record { handled = handled; memory = tt }
 sure_packet (Err memory) done handled = absurd (false≢true done)
 
-pub unharmed : (old new : NodeState) → new.policy ≡ old.policy → new.pending ≡ old.pending → new.cache ≡ old.cache → ChangesCacheOnly old new
-unharmed old new policy pending cache = record {
-  policy = policy;
-  pending = pending;
-  cache = subst (MayForget old.cache) (sym cache) (nothing_lost old.cache.cached, refl);
-}
+-- a node is unchanged if its policy, its pending Interests and its cache are
+pub unchanged : (old new : NodeState) → new.policy ≡ old.policy → new.pending ≡ old.pending → new.cache ≡ old.cache → new ≡ old
+unchanged old new policy pending cache = λ j. record { policy = policy j; pending = pending j; cache = cache j }
 
 -- advancing time does not change whether a name is out of scope
 pub later_scope : (old was : NodeState) (face now : ℕ) (name : List Field) → IsLater old now was

@@ -9,7 +9,7 @@ use Rattle.info_rules.specs.Rule.{PlainRule}
 use Rattle.pit_fib.specs.Records.{Pending, HoldsTheLiving, records_at}
 use Rattle.forwarder.specs.declared.verdict.Verdict as code
 use Rattle.forwarder.specs.Event.{PlainEvent, NewRules, Send, Tick}
-use Rattle.forwarder.specs.Node.{NodeState, IsStep, ChangesCacheOnly}
+use Rattle.forwarder.specs.Node.{NodeState, IsStep}
 use Rattle.forwarder.specs.Policy.{Policy, with_rules}
 use Rattle.forwarder.specs.Runs.{Run, Then, IsRun, Stands}
 use Rattle.forwarder.specs.State.{IsLater, IsSound}
@@ -18,21 +18,10 @@ use Rattle.forwarder.proofs.Handled.{StepsBy}
 use Rattle.forwarder.proofs.Soundness.{step_sound}
 use Rattle.forwarder.proofs.Standing.{step_goes_on}
 
--- a node that was sound is still sound after a step that ran out of memory
-unharmed_sound : (old new : NodeState) → IsSound old → ChangesCacheOnly old new → IsSound new
-unharmed_sound old new sound unharmed =
-    subst (λ (p : Policy). IsSound (record { policy = p; pending = new.pending; cache = new.cache })) (sym unharmed.policy)
-    (subst (λ (t : Pending). IsSound (record { policy = old.policy; pending = t; cache = new.cache })) (sym unharmed.pending) (record {
-      few = sound.few;
-      rising = sound.rising;
-      records = sound.records;
-      routes = sound.routes;
-    }))
-
 pub sound_after : (old new : NodeState) (before after : List Send) (event : PlainEvent) (r : Result code.Verdict Memory) → IsSound old
-    → IfOk r (StepsBy old new before after event) → OnErr r (ChangesCacheOnly old new × (after ≡ before)) → IsSound new
+    → IfOk r (StepsBy old new before after event) → OnErr r ((new ≡ old) × (after ≡ before)) → IsSound new
 sound_after old new before after event (Ok verdict) sound (sends, is, step) none = step_sound old new event (record { verdict = verdict_of verdict; sends = sends }) sound step
-sound_after old new before after event (Err memory) sound none (unharmed, is) = unharmed_sound old new sound unharmed
+sound_after old new before after event (Err memory) sound none (same, is) = subst IsSound (sym same) sound
 
 abbrev pub ExtendsRunsByEvent : NodeState → NodeState → List Send → PlainEvent → code.Verdict → Type 0
 ExtendsRunsByEvent old new sends event verdict =

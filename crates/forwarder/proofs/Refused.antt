@@ -27,9 +27,8 @@ use Rattle.forwarder.specs.Cache.{CacheAfter, CacheUse, command_use}
 use Rattle.forwarder.specs.Effects.{after_decision}
 use Rattle.forwarder.specs.Replies.{RepliesToCommand, RepliesToRequest}
 use Rattle.forwarder.specs.Handling.{IsAnswered, IsHandled, IsPacketEffect, packet_causes, packet_use, seen_by}
-use Rattle.forwarder.specs.Node.{FollowAll, NodeState, ChangesCacheOnly}
+use Rattle.forwarder.specs.Node.{FollowAll, NodeState}
 use Rattle.forwarder.specs.State.{IsLater, policy_of, state_of}
-use Rattle.forwarder.proofs.Answered.{unharmed}
 use Rattle.forwarder.proofs.Uses.{commanded_use}
 
 -- Let a policy have the rules, the keys and the guard of `old`, and let its time be the greater of
@@ -62,11 +61,6 @@ other_command named.ForData other e = absurd cc
 -- replacing the guard of a node by an equal one gives the same node
 pub with_guard : (n : NodeState) (guard : Table) → guard ≡ n.policy.guard → record n { policy = record n.policy { guard = guard } } ≡ n
 with_guard n guard g = λ j. record n { policy = record n.policy { guard = g j } }
-
--- if neither the node nor the sends change, then `ChangesCacheOnly` is true of the node
-pub kept_unharmed : (old new : NodeState) (before after : List Send) → (new ≡ old) × (after ≡ before) → ChangesCacheOnly old new × (after ≡ before)
-kept_unharmed old new before after (same, sent) =
-    (unharmed old new (ap (λ (n : NodeState). n.policy) same) (ap (λ (n : NodeState). n.pending) same) (ap (λ (n : NodeState). n.cache) same), sent)
 
 -- the request of an Interest is still the same once time has advanced to the Interest's moment
 request_then : (old was : NodeState) (now face : ℕ) (i : PlainInterest) (request : Request) → IsLater old now was

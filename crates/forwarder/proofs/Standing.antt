@@ -1,20 +1,19 @@
 -- A new node agrees with the empty run. If a valid run starts from a policy with the time 0, a step
 -- of a node that agrees with the run extends the run, unless the step runs out of memory.
-use Rattle.std.proofs.Common.{◌≡◌, ℕ, [], refl, sym, ap, subst, ◌∙◌}
+use Rattle.std.proofs.Common.{◌≡◌, ℕ, [], refl, ap}
 use Rattle.std.specs.Prelude.{Option, unwrap_or}
 use Rattle.std.specs.FinMap as map
 use Rattle.std.specs.FinMap.{get-empty}
 use Rattle.std.proofs.lemmas.List.Elements.{All-nil}
 use Rattle.ndn_packets.specs.Key.{key_cmp}
-use Rattle.pit_fib.specs.Records.{Pending, Records, no_records, records_at}
-use Rattle.content_store.proofs.Losses.{loses_some-contained}
+use Rattle.pit_fib.specs.Records.{Records, no_records}
 use Rattle.forwarder.specs.Event.{PlainEvent}
-use Rattle.forwarder.specs.Node.{NodeState, IsStep, ChangesCacheOnly}
+use Rattle.forwarder.specs.Node.{NodeState, IsStep}
 use Rattle.forwarder.specs.Policy.{Policy}
-use Rattle.forwarder.specs.Runs.{Run, Start, Then, IsPolicyOf, IsRun, MayHold, Stands}
+use Rattle.forwarder.specs.Runs.{Run, Start, Then, IsRun, MayHold, Stands}
 use Rattle.forwarder.specs.Verdict.{Answer}
 use Rattle.forwarder.proofs.RunSteps.{may_reply, pending_is}
-use Rattle.forwarder.proofs.RunCaches.{all_forgotten, cache_held}
+use Rattle.forwarder.proofs.RunCaches.{cache_held}
 
 -- a node with the policy `first`, no records and an empty cache agrees with the empty run
 pub new_stands : (first : Policy) (capacity : ℕ) → Stands first Start (record { policy = first; pending = map.empty; cache = record { cached = []; capacity = capacity } })
@@ -33,11 +32,3 @@ step_goes_on first past old new event answer begins is_run stands step = (
     cache = cache_held first past old new event answer begins stands step;
   },
 )
-
--- a step that runs out of memory leaves the node in agreement with its run
-pub refused_stands : (first : Policy) (past : Run) (old new : NodeState) → Stands first past old → ChangesCacheOnly old new → Stands first past new
-refused_stands first past old new stands unharmed = record {
-  policy = subst (λ (p : Policy). IsPolicyOf first past p) (sym unharmed.policy) stands.policy;
-  pending = λ key. ap (λ (t : Pending). records_at t key) unharmed.pending ∙ stands.pending key;
-  cache = all_forgotten (MayHold past) old.cache.cached new.cache.cached stands.cache (loses_some-contained old.cache.cached new.cache.cached unharmed.cache.0);
-}

@@ -20,6 +20,7 @@ use Rattle.forwarder.specs.Deciding.{recorded_of}
 use Rattle.forwarder.specs.Commands.{after_request}
 use Rattle.forwarder.specs.Effects.{after_decision, undecided_effect}
 use Rattle.forwarder.specs.Handling.{HandlesPacket, IsHandled, IsPacketEffect}
+use Rattle.forwarder.specs.Node.{NodeState}
 use Rattle.forwarder.specs.State.{IsLater, policy_of, state_of}
 use Rattle.forwarder.proofs.Stored.{record_stored, tables_stored, undecided_stored}
 
@@ -72,4 +73,4 @@ handled_stores old new before after face token now packet (Ok verdict) done read
     by_answer : IsHandled old new before after face token now packet verdict → AreObjects new.repo.held.objects
     by_answer (was, sends, sent, later, answered) =
         effect_stores was.policy (policy_of new) face packet (is_decided was.policy face packet) answered.policy read (subst StoresData (sym later.policy) h)
-handled_stores old new before after face token now packet (Err memory) done read h = subst StoresData (sym done.memory.0.policy) h
+handled_stores old new before after face token now packet (Err memory) done read h = subst (λ (n : NodeState). StoresData n.policy) (sym done.memory.0) h

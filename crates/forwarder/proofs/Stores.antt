@@ -23,7 +23,7 @@ use Rattle.forwarder.specs.Policy.{at_moment}
 use Rattle.forwarder.specs.Outcome.{outcome_of}
 use Rattle.forwarder.specs.Cache.{CacheAfter, CacheUse, Untouched, LooksUp, Inserts, Erases, MayForget, cache_use, held_from}
 use Rattle.forwarder.specs.DataSends.{BringsOctets}
-use Rattle.forwarder.specs.Node.{ChangesCacheOnly, IsStep, NodeState}
+use Rattle.forwarder.specs.Node.{IsStep, NodeState}
 use Rattle.forwarder.proofs.Handled.{StepsBy}
 use Rattle.forwarder.proofs.Uses.{closing_inserts, read_inserts}
 
@@ -162,10 +162,7 @@ step_store old new event answer fits is step =
     let now = (at_moment old.policy (moment event)).now in
     use_store old.cache is now step.waiting (cache_use now (outcome_of event answer.verdict)) new.cache (λ c e. brings_data now event answer.verdict c fits e) step.cache
 
-pub unharmed_store : (old new : NodeState) → IsStore old.cache → ChangesCacheOnly old new → IsStore new.cache
-unharmed_store old new is unharmed = lost_store old.cache is new.cache unharmed.cache
-
 pub store_after : (old new : NodeState) (before after : List Send) (event : PlainEvent) (r : Result code.Verdict Memory) → BringsOctets event → IsStore old.cache
-    → IfOk r (StepsBy old new before after event) → OnErr r (ChangesCacheOnly old new × (after ≡ before)) → IsStore new.cache
+    → IfOk r (StepsBy old new before after event) → OnErr r ((new ≡ old) × (after ≡ before)) → IsStore new.cache
 store_after old new before after event (Ok verdict) fits is (sends, same, step) none = step_store old new event (record { verdict = verdict_of verdict; sends = sends }) fits is step
-store_after old new before after event (Err memory) fits is none (unharmed, same) = unharmed_store old new is unharmed
+store_after old new before after event (Err memory) fits is none (same, sent) = subst (λ (n : NodeState). IsStore n.cache) (sym same) is

@@ -27,7 +27,7 @@ use Rattle.forwarder.specs.Outcome.{packet_outcome}
 use Rattle.forwarder.specs.Causes.{causes_by}
 use Rattle.forwarder.specs.Cache.{CacheAfter, CacheUse, cache_use}
 use Rattle.forwarder.specs.Replies.{Seen, RepliesToPacket}
-use Rattle.forwarder.specs.Node.{NodeState, FollowAll, ChangesCacheOnly, seen_in}
+use Rattle.forwarder.specs.Node.{NodeState, FollowAll, seen_in}
 use Rattle.forwarder.specs.State.{IsLater, IsSound, state_of}
 
 -- `new` is the policy after a packet, if `p` is the policy before the packet. If rules decide the
@@ -94,9 +94,9 @@ pub record AwaitsPacket (s : State) (face : ℕ) (token : Token) : Type 0 where
   pub octets : IfSome token AreOctets
   pub objects : AreObjects s.repo.held.objects
 
--- Either the result is Ok, and the packet was handled (`IsHandled`). Or memory ran out, nothing
--- changed except that cached Data may have been dropped, and nothing was sent.
+-- Either the result is Ok, and the packet was handled (`IsHandled`). Or memory ran out, the node is
+-- unchanged, and nothing was sent.
 pub record HandlesPacket (old new : State) (before after : List Send) (face : ℕ) (token : Token)
     (moment : ℕ) (packet : PlainFrame) (result : Result code.Verdict Memory) : Type 0 where
   pub handled : IfOk result (IsHandled old new before after face token moment packet)
-  pub memory : OnErr result (ChangesCacheOnly (state_of old) (state_of new) × (after ≡ before))
+  pub memory : OnErr result ((state_of new ≡ state_of old) × (after ≡ before))

@@ -21,7 +21,7 @@ use Rattle.forwarder.specs.Replies.{Seen, Replies}
 use Rattle.forwarder.specs.Effects.{IsAfter}
 use Rattle.forwarder.specs.Outcome.{outcome_of}
 use Rattle.forwarder.specs.Causes.{causes_of, after_causes}
-use Rattle.forwarder.specs.Cache.{CacheAfter, MayForget, cache_use}
+use Rattle.forwarder.specs.Cache.{CacheAfter, cache_use}
 use Rattle.forwarder.specs.Verdict.{Answer, DropReason}
 
 pub record NodeState : Type 0 where
@@ -66,13 +66,6 @@ pub record IsStep (old : NodeState) (event : PlainEvent) (answer : Answer)
   pub cache : CacheAfter (at_moment old.policy (moment event)).now waiting
       (cache_use (at_moment old.policy (moment event)).now (outcome_of event answer.verdict))
       old.cache new.cache
-
--- `new` is the node `old`, except that cached Data may have been dropped, as in a step that ran out
--- of memory
-pub record ChangesCacheOnly (old new : NodeState) : Type 0 where
-  pub policy : new.policy ≡ old.policy
-  pub pending : new.pending ≡ old.pending
-  pub cache : MayForget old.cache new.cache
 
 -- ---- events that need no memory
 

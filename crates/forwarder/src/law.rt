@@ -32,7 +32,7 @@ ghost use Rattle.sha2.specs.Sha256.{sha256};
 ghost use Rattle.replay_guard.specs.Freshness.{AreNear, NumberRises, Recorded};
 ghost use Rattle.replay_guard.specs.Guard.{table_of};
 ghost use Rattle.forwarder.specs.State.{IsSound};
-ghost use Rattle.forwarder.specs.Node.{NodeState, IsStep, ChangesCacheOnly};
+ghost use Rattle.forwarder.specs.Node.{NodeState, IsStep};
 ghost use Rattle.forwarder.specs.Causes.{in_record_for, causes_of};
 ghost use Rattle.forwarder.specs.Hops.{cost_of};
 ghost use Rattle.forwarder.specs.RouteReading.{route_of};
@@ -72,14 +72,11 @@ pub fn steps_keep_nodes_sound()
 {}
 
 /// Law: a step keeps the cache a content store: within its capacity, with no two Data of the same
-/// full name, and with each Data as it was received. So does a step that ran out of memory. The law
-/// requires that the octets of the event's packet are numbers below 256, which is true of every
-/// event of a node.
+/// full name, and with each Data as it was received. The law requires that the octets of the event's
+/// packet are numbers below 256, which is true of every event of a node.
 pub fn steps_keep_stores()
-    ensures step { (old new : NodeState) (event : PlainEvent) (answer : Answer)
+    ensures { (old new : NodeState) (event : PlainEvent) (answer : Answer)
         → BringsOctets event → IsStore old.cache → IsStep old event answer new
-        → IsStore new.cache }
-    ensures memory { (old new : NodeState) → IsStore old.cache → ChangesCacheOnly old new
         → IsStore new.cache }
 {}
 
@@ -101,13 +98,6 @@ pub fn new_nodes_stand_in_the_empty_run()
       pending = map.empty;
       cache = record { cached = []; capacity = capacity };
     }) }
-{}
-
-/// Law: after a step that ran out of memory, the node still agrees with each run that it agreed
-/// with before the step.
-pub fn refused_steps_stand_still()
-    ensures { (first : Policy) (past : Run) (old new : NodeState) → Stands first past old
-        → ChangesCacheOnly old new → Stands first past new }
 {}
 
 /// Law: let two runs start from the same policy and have the same events, and let no key book of

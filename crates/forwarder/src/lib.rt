@@ -31,10 +31,9 @@ pub use law::{
     denied_events_change_nothing, each_send_is_explained, events_have_one_effect,
     every_data_sent_was_asked_for, guards_hold_allowed_commands, histories_decide, keys_stay_apart,
     moments_in_a_row_are_as_the_later, new_nodes_stand_in_the_empty_run, objects_were_allowed,
-    records_are_read_off_the_run, refused_steps_stand_still,
-    registered_routes_are_read_off_the_run, routes_are_read_off_the_run, rules_in_force,
-    steps_go_on_with_runs, steps_have_one_effect, steps_keep_nodes_sound,
-    unanswered_interests_wait,
+    records_are_read_off_the_run, registered_routes_are_read_off_the_run,
+    routes_are_read_off_the_run, rules_in_force, steps_go_on_with_runs, steps_have_one_effect,
+    steps_keep_nodes_sound, unanswered_interests_wait,
 };
 pub use node::{Node, NodeFault, NodeParts};
 pub use outbox::Outbox;

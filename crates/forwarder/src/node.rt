@@ -4,7 +4,7 @@ ghost use Rattle.info_rules.specs.Rule.{PlainRule};
 ghost use Rattle.ndn_tlv.specs.Element.{Field};
 ghost use Rattle.content_store.specs.Store.{IsStore};
 ghost use Rattle.forwarder.specs.Event.{plain, Send};
-ghost use Rattle.forwarder.specs.Node.{AsksNoMemory, IsStep, ChangesCacheOnly};
+ghost use Rattle.forwarder.specs.Node.{AsksNoMemory, IsStep};
 ghost use Rattle.forwarder.specs.Parts.{first_node, is_bad_prefix as is_bad_prefix_of, parts_fault};
 ghost use Rattle.forwarder.specs.Headline.{Headline, IsNodeRun};
 ghost use Rattle.forwarder.specs.Policy.{HasSameTables, Policy, first_policy};
@@ -193,8 +193,7 @@ impl Node {
     /// from the next event on. Apart from this, the event `NewRules` only advances time, as each
     /// event does.
     ///
-    /// If memory runs out, the cache may have dropped Data; nothing else changes. These events need
-    /// no memory: face changes, ticks, new rules, packets on faces that are not open, octets that
+    /// If memory runs out, the node and the outbox are unchanged. These events need no memory: face changes, ticks, new rules, packets on faces that are not open, octets that
     /// hold no packet, packets out of scope (`DropReason::Scope`), and Interests with HopLimit 0. A
     /// Data that the rules do not allow needs no memory, unless the first rule that applies to the
     /// Data has a hyper-relation.
@@ -227,7 +226,7 @@ impl Node {
             (record { verdict = verdict_of verdict; sends = sends }))
             × Headline (first_policy rules keys repo) (Then past (plain event.entry)
             (record { verdict = verdict_of verdict; sends = sends })) self.new.policy) }
-        ensures memory { OnErr result (ChangesCacheOnly self.old self.new
+        ensures memory { OnErr result ((self.new ≡ self.old)
             × (outbox.new ≡ outbox.old)) }
         ensures without_memory { AsksNoMemory self.old (plain event.entry) → IsOk result }
         // The cache is within its capacity, and has each Data once and as it was received, even if

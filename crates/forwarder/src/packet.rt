@@ -4,7 +4,7 @@ ghost use Rattle.ndn_packets.specs.Writing.{AreOctets};
 ghost use Rattle.repo_core.specs.Objects.{AreObjects};
 ghost use Rattle.forwarder.specs.Event.{Packet, Send};
 ghost use Rattle.forwarder.specs.OpenFaces.{is_open};
-ghost use Rattle.forwarder.specs.Node.{NeedsNoMemory, IsStep, ChangesCacheOnly};
+ghost use Rattle.forwarder.specs.Node.{NeedsNoMemory, IsStep};
 ghost use Rattle.forwarder.specs.State.{IsLater, IsSound, policy_of, state_of};
 ghost use Rattle.forwarder.specs.Verdict.{verdict_of};
 ghost use Rattle.forwarder.specs.declared.verdict.Verdict.TheVariants as said;
@@ -31,7 +31,7 @@ impl State {
             × (out.new.sends ≡ out.old.sends ++ sends)
             × IsStep (state_of self.old) (Packet face now octets.now)
             (record { verdict = verdict_of verdict; sends = sends }) (state_of self.new)) }
-        ensures memory { OnErr result (ChangesCacheOnly (state_of self.old) (state_of self.new)
+        ensures memory { OnErr result ((state_of self.new ≡ state_of self.old)
             × (out.new.sends ≡ out.old.sends)) }
         ensures objects { AreObjects self.new.repo.held.objects }
         ensures without_memory { (is_open face self.old.faces ≡ false)

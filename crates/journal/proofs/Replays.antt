@@ -7,12 +7,11 @@ use Rattle.std.specs.Io.KnownBytes.{Consumes}
 use Rattle.std.proofs.lemmas.Bool.{eqb-true}
 use Rattle.std.proofs.lemmas.List.{map-append, take_at}
 use Rattle.forwarder.specs.Event.{PlainEvent, Send}
-use Rattle.forwarder.specs.Node.{IsStep, NodeState, ChangesCacheOnly}
+use Rattle.forwarder.specs.Node.{IsStep, NodeState}
 use Rattle.forwarder.specs.Policy.{Policy}
 use Rattle.forwarder.specs.Runs.{Run, Start, Then, KeysAreApart}
 use Rattle.forwarder.specs.Verdict.{Answer, verdict_of}
 use Rattle.forwarder.specs.declared.verdict.Verdict.{Verdict}
-use Rattle.forwarder.proofs.Answered.{unharmed as left_alone}
 use Rattle.node_core.specs.Outcomes.{Outcome, Answered, AreOutcomes, IsEvent, IsOutcome, run_from}
 use Rattle.node_core.specs.Script.{AreLines, IsScriptSoFar, SpellEvents, ended, joined}
 use Rattle.node_core.specs.Script.Line.{IsEventLine, IsShort, IsSkipped, Lacks}
@@ -147,9 +146,6 @@ plays_step line event verdict held out old new lacks is is_event h =
 
 -- ---- the fault of a replay
 
-pub unharmed : (node : NodeState) → ChangesCacheOnly node node
-unharmed node = left_alone node node refl refl refl
-
 pub stops_line : (f : ReplayFault) (old mid new : NodeState) (unread between left : Option (List ℕ)) (number events whole : ℕ) (line : List ℕ) → SoFar old mid unread between number events whole
     → Lacks 10 line → Consumes between left (ended line) → StopsLine line (number + 1) mid new f → StopsReplay old new unread left f
 stops_line (fault.BadLine n) old mid new unread between left number events whole line h lacks read stops =
@@ -165,7 +161,7 @@ stops_line (fault.BadLine n) old mid new unread between left number events whole
     )
 stops_line fault.Read old mid new unread between left number events whole line h lacks read stops = absurd stops
 stops_line fault.Memory old mid new unread between left number events whole line h lacks read stops =
-    (h.lines, h.said, ended line, mid, h.plays, stops, Consumes-then unread between left (joined h.lines) (ended line) h.read read)
+    (h.lines, h.said, ended line, subst (Plays h.lines h.said old) (sym stops) h.plays, Consumes-then unread between left (joined h.lines) (ended line) h.read read)
 
 pub stops_reading : (f : ReplayFault) (old node : NodeState) (unread between left : Option (List ℕ)) (number events whole : ℕ) (rest : List ℕ) → SoFar old node unread between number events whole
     → Consumes between left rest → IsReadFault f → StopsReplay old node unread left f
@@ -173,7 +169,7 @@ stops_reading (fault.BadLine n) old node unread between left number events whole
 stops_reading fault.Read old node unread between left number events whole rest h read is =
     (h.lines, h.said, rest, h.plays, Consumes-then unread between left (joined h.lines) rest h.read read)
 stops_reading fault.Memory old node unread between left number events whole rest h read is =
-    (h.lines, h.said, rest, node, h.plays, unharmed node, Consumes-then unread between left (joined h.lines) rest h.read read)
+    (h.lines, h.said, rest, h.plays, Consumes-then unread between left (joined h.lines) rest h.read read)
 
 -- ---- the end of the text
 

@@ -2,7 +2,7 @@
 use Rattle.std.specs.Prelude.{◌≡◌, ℕ, ◌+◌, Bool, true, false, Option, Some, IfSome, List, [], ◌∷◌, ◌++◌, length, map, take, ⊤}
 use Rattle.std.specs.Io.KnownBytes.{Consumes}
 use Rattle.forwarder.specs.Event.{PlainEvent}
-use Rattle.forwarder.specs.Node.{NodeState, ChangesCacheOnly}
+use Rattle.forwarder.specs.Node.{NodeState}
 use Rattle.forwarder.specs.Policy.{Policy}
 use Rattle.forwarder.specs.Runs.{Run, Start, IsPolicyOf, IsRun, KeysAreApart, Stands}
 use Rattle.forwarder.specs.Verdict.{Answer}
@@ -44,9 +44,8 @@ pub record Replays (old new : NodeState) (unread left : Option (List ℕ))
 
 -- A replay stopped with this fault, after the events of all lines before the fault were answered.
 -- `BadLine`: line `n`, counted from 1, was bad. `Read`: the reader failed, or the journal has too
--- many lines. `Memory`: memory ran out for a line or for the step of the line's event, and the
--- cache may have dropped Data. If the octets of the reader were not known (None),
--- nothing is stated about what was read.
+-- many lines. `Memory`: memory ran out for a line or for the step of the line's event. If the octets
+-- of the reader were not known (None), nothing is stated about what was read.
 abbrev pub StopsReplay : NodeState → NodeState → Option (List ℕ) → Option (List ℕ) → ReplayFault
     → Type 0
 StopsReplay old new unread left (fault.BadLine n) =
@@ -57,9 +56,8 @@ StopsReplay old new unread left fault.Read =
     (lines : List (List ℕ)) × (events : List PlainEvent) × (rest : List ℕ)
     × Plays lines events old new × Consumes unread left (joined lines ++ rest)
 StopsReplay old new unread left fault.Memory =
-    (lines : List (List ℕ)) × (events : List PlainEvent) × (rest : List ℕ) × (last : NodeState)
-    × Plays lines events old last × ChangesCacheOnly last new
-    × Consumes unread left (joined lines ++ rest)
+    (lines : List (List ℕ)) × (events : List PlainEvent) × (rest : List ℕ)
+    × Plays lines events old new × Consumes unread left (joined lines ++ rest)
 
 -- What a replay restores if a crash left only the octets `left` of the text of a run's journal.
 -- The whole lines of `left` are the text of the journal of a prefix of the run, as `Survives`
@@ -96,14 +94,13 @@ abbrev pub PlaysLine : List ℕ → NodeState → NodeState → Bool → Type 0
 PlaysLine line old new true = (event : PlainEvent) × Plays (line ∷ []) (event ∷ []) old new
 PlaysLine line old new false = Plays (line ∷ []) [] old new
 
--- Why a line was not replayed. `BadLine`, with the number of the line: the line is bad, and the
--- node is unchanged. `Memory`: memory ran out, and nothing changed except that the cache may have
--- dropped Data.
+-- Why a line was not replayed; the node is unchanged. `BadLine`, with the number of the line: the
+-- line is bad. `Memory`: memory ran out.
 abbrev pub StopsLine : List ℕ → ℕ → NodeState → NodeState → ReplayFault → Type 0
 StopsLine line number old new (fault.BadLine n) =
     IsBadLine line × (n ≡ number) × (new ≡ old)
 StopsLine line number old new fault.Read = ⊥
-StopsLine line number old new fault.Memory = ChangesCacheOnly old new
+StopsLine line number old new fault.Memory = new ≡ old
 
 -- the fault is one that can occur when a line is read: `Read` (the reader failed) or `Memory`
 -- (memory ran out)

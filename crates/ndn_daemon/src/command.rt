@@ -53,7 +53,7 @@ node sends. The verdict is one of these:
   denied interest|data WHY RULE the rule denied the command or the Data, or the command is not fresh
   no-rule interest|data         no rule applies, so the command or the Data is denied
   dropped REASON                only the time changed; an Interest that loops gets a Nack
-  memory                        memory ran out; only the cache may have changed
+  memory                        memory ran out; nothing changed
 
 Without --rules, all commands and all Data are denied until a line `rules` gives rules. Each line of
 a key file has the URI of a key's name, a space, and the key in hexadecimal.

@@ -10,7 +10,7 @@ use Rattle.forwarder.specs.Headline.{Headline, IsNodeRun}
 use Rattle.forwarder.specs.Policy.{Policy}
 use Rattle.forwarder.specs.Runs.{Run, Then, IsPolicyOf, IsRun, KeysAreApart, Stands, events_back}
 use Rattle.forwarder.proofs.Headlines.{headline_of}
-use Rattle.forwarder.proofs.Standing.{refused_stands, step_goes_on}
+use Rattle.forwarder.proofs.Standing.{step_goes_on}
 
 pub AreOutcomes-append : (a b c : NodeState) (es fs : List PlainEvent) (rs ss : List Outcome) → AreOutcomes a es rs b → AreOutcomes b fs ss c → AreOutcomes a (es ++ fs) (rs ++ ss) c
 AreOutcomes-append a b c [] fs [] ss h k = rw h at k
@@ -29,7 +29,7 @@ still_run first past old new (event ∷ events) (Answered answer ∷ outcomes) b
     let next = step_goes_on first past old runs.0 event answer begins run stands runs.1.1 in
     still_run first (Then past event answer) runs.0 new events outcomes begins runs.2 next.0 next.1
 still_run first past old new (event ∷ events) (NoMemory ∷ outcomes) begins runs run stands =
-    still_run first past runs.0 new events outcomes begins runs.2 run (refused_stands first past old runs.0 stands runs.1.1)
+    still_run first past runs.0 new events outcomes begins runs.2 run (subst (Stands first past) (sym runs.1.1) stands)
 
 -- the keys of the answered events have different names, and their packets consist of octets
 still_apart : (first : Policy) (past : Run) (old new : NodeState) (events : List PlainEvent) (outcomes : List Outcome) → AreOutcomes old events outcomes new → KeysAreApart first past

@@ -9,7 +9,7 @@ use Rattle.ndn_tlv.specs.declared.memory.Memory.{Memory}
 use Rattle.info_rules.specs.Rule.{PlainRule}
 use Rattle.forwarder.specs.declared.verdict.Verdict.{Verdict}
 use Rattle.forwarder.specs.Event.{PlainEvent, Packet, FaceUp, FaceDown, Tick, NewRules, Send, rules_after}
-use Rattle.forwarder.specs.Node.{NodeState, IsStep, ChangesCacheOnly, AsksNoMemory}
+use Rattle.forwarder.specs.Node.{NodeState, IsStep, AsksNoMemory}
 use Rattle.forwarder.specs.Policy.{Policy}
 use Rattle.forwarder.specs.Verdict.{Answer, verdict_of}
 use Rattle.std.specs.Prelude.{IsOk}
@@ -38,7 +38,7 @@ never_ok e h = cc
 
 pub outcome_from_step : (old new : NodeState) (event : PlainEvent) (outcome : Result Verdict Memory) (held out : List Send) → held ≡ []
     → IfOk outcome (λ verdict. (sends : List Send) × (out ≡ held ++ sends) × IsStep old event (record { verdict = verdict_of verdict; sends = sends }) new)
-    → OnErr outcome (ChangesCacheOnly old new × (out ≡ held)) → (AsksNoMemory old event → IsOk outcome) → IsEvent event → HasOutcome old new event outcome out
+    → OnErr outcome ((new ≡ old) × (out ≡ held)) → (AsksNoMemory old event → IsOk outcome) → IsEvent event → HasOutcome old new event outcome out
 outcome_from_step old new event (Ok verdict) held out none ok err quiet is =
     let same : out ≡ ok.0 = ok.1 ∙ ap (λ (h : List Send). h ++ ok.0) none in
     record { done_as = Answered (record { verdict = verdict_of verdict; sends = ok.0 }); handled = (is, ok.2); text_is = λ rules n. rw same refl }
@@ -58,7 +58,7 @@ refused_rules old new (NewRules rules keys now) h = absurd (h.2 tt)
 
 next_rules : (old new : NodeState) (event : PlainEvent) (outcome : Outcome) → IsOutcome old event outcome new → new.policy.rules ≡ rules_after event old.policy.rules
 next_rules old new event (Answered answer) h = after_rules old.policy new.policy event h.1.policy
-next_rules old new event NoMemory h = ap (λ (p : Policy). p.rules) h.1.policy ∙ sym (refused_rules old new event h)
+next_rules old new event NoMemory h = ap (λ (n : NodeState). n.policy.rules) h.1 ∙ sym (refused_rules old new event h)
 
 -- the text of an answer is the same, whether it is written with the rules before the event or with
 -- the rules after the event
@@ -79,7 +79,7 @@ same_text old new event NoMemory n h = refl
 
 pub PlaysEvent-from_step : (from to : Place) (event : PlainEvent) (outcome : Result Verdict Memory) (rules : List PlainRule) (held out : List Send) → held ≡ []
     → IfOk outcome (λ verdict. (sends : List Send) × (out ≡ held ++ sends) × IsStep from.node event (record { verdict = verdict_of verdict; sends = sends }) to.node)
-    → OnErr outcome (ChangesCacheOnly from.node to.node × (out ≡ held)) → (AsksNoMemory from.node event → IsOk outcome) → IsEvent event
+    → OnErr outcome ((to.node ≡ from.node) × (out ≡ held)) → (AsksNoMemory from.node event → IsOk outcome) → IsEvent event
     → rules ≡ to.node.policy.rules → to.lines ≡ from.lines → to.events ≡ from.events + 1
     → PlaysEvent event from to (lines_text (from.events + 1) (result_text rules outcome) out)
 PlaysEvent-from_step from to event outcome rules held out none ok err quiet is shown lines events =

@@ -4,7 +4,7 @@ use Rattle.hmac_keys.specs.KeyFile.{NamedKey}
 use Rattle.info_rules.specs.Rule.{PlainRule}
 use Rattle.ndn_tlv.specs.Element.{Field}
 use Rattle.forwarder.specs.Event.{PlainEvent}
-use Rattle.forwarder.specs.Node.{NodeState, IsStep, ChangesCacheOnly, AsksNoMemory}
+use Rattle.forwarder.specs.Node.{NodeState, IsStep, AsksNoMemory}
 use Rattle.forwarder.specs.Headline.{Headline, IsNodeRun}
 use Rattle.forwarder.specs.Policy.{Policy, first_policy}
 use Rattle.forwarder.specs.Runs.{Run, Then, BringsKeysApart, IsRun, Stands}
@@ -23,12 +23,11 @@ IsEvent event = BringsOctets event × BringsKeysApart event
 
 -- The event is valid (`IsEvent`) and has this outcome. `Answered`: a step with this answer leads
 -- from the node `old` to the node `new`. `NoMemory`: memory ran out for the event, which is
--- possible only for an event that needs memory; in this case, nothing changed except that the cache
--- may have dropped Data (`MayForget`).
+-- possible only for an event that needs memory; in this case, the node is unchanged.
 abbrev pub IsOutcome : NodeState → PlainEvent → Outcome → NodeState → Type 0
 IsOutcome old event (Answered answer) new = IsEvent event × IsStep old event answer new
 IsOutcome old event NoMemory new =
-    IsEvent event × ChangesCacheOnly old new × (AsksNoMemory old event → ⊥)
+    IsEvent event × (new ≡ old) × (AsksNoMemory old event → ⊥)
 
 -- `outcomes` has one outcome for each event, in the order of the events; handling the events with
 -- these outcomes leads from the old node to the new node

@@ -13,8 +13,8 @@ pub use forwarder::{
     denied_events_change_nothing, each_send_is_explained, events_have_one_effect,
     every_data_sent_was_asked_for, guards_hold_allowed_commands, histories_decide, keys_stay_apart,
     new_nodes_stand_in_the_empty_run, objects_were_allowed, records_are_read_off_the_run,
-    refused_steps_stand_still, routes_are_read_off_the_run, rules_in_force, steps_go_on_with_runs,
-    steps_have_one_effect, steps_keep_nodes_sound, unanswered_interests_wait,
+    routes_are_read_off_the_run, rules_in_force, steps_go_on_with_runs, steps_have_one_effect,
+    steps_keep_nodes_sound, unanswered_interests_wait,
 };
 pub use script::{
     Line, LineFault, RunFault, WrittenEvent, cut_line, event_line, hex_word, line_of, put_all,

@@ -55,7 +55,7 @@ pub enum RunFault {
 /// lines that begin with `#` are skipped. Every line has at most 20,000 octets, not counting its
 /// LF. A line ends with an LF or at the end of the input. If memory runs out while the node handles
 /// an event, the answer to the event has `memory` in place of a verdict. Such an event has no
-/// effect, except that the cache may have dropped Data.
+/// effect.
 pub fn run_script<R: Read, W: Write>(
     alloc: Global,
     reader: &mut R,

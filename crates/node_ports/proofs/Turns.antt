@@ -14,7 +14,7 @@ use Rattle.journal.proofs.LineTexts.{moved_change, moved_event}
 use Rattle.ndn_tlv.specs.declared.memory.Memory.{Memory}
 use Rattle.node_ports.specs.declared.ports.TheConstants.{FRAME_ROOM}
 use Rattle.forwarder.specs.declared.verdict.Verdict.{Verdict}
-use Rattle.forwarder.specs.Node.{NodeState, IsStep, ChangesCacheOnly, AsksNoMemory}
+use Rattle.forwarder.specs.Node.{NodeState, IsStep, AsksNoMemory}
 use Rattle.forwarder.specs.Verdict.{Answer, Verdict as PlainVerdict, verdict_of}
 use Rattle.node_core.specs.Outcomes.{ExtendsRuns, Outcome, Answered, NoMemory, IsEvent, IsOutcome, AreOutcomes, run_from}
 use Rattle.node_ports.specs.Step.{PortStep, Got, Wrote, Gave, FailedSend, count_of, is_committed, is_written, journalled, line_steps}
@@ -124,10 +124,10 @@ front_of old event e time front is later (inr h) = inr (h.0, subst (IsLineOf old
 
 -- ---- one turn
 
-pub Handles-refused : (has : Bool) (old new : NodeState) (event : PlainEvent) (e : Memory) → IsEvent event → ChangesCacheOnly old new → (AsksNoMemory old event → IsOk {T = Verdict} {E = Memory} (Err e))
+pub Handles-refused : (has : Bool) (old new : NodeState) (event : PlainEvent) (e : Memory) → IsEvent event → new ≡ old → (AsksNoMemory old event → IsOk {T = Verdict} {E = Memory} (Err e))
     → Handles has old new NoMemory 0 (Got FRAME_ROOM event ∷ [])
-Handles-refused has old new event e known unharmed quiet =
-    let handled : IsOutcome old event NoMemory new = (known, unharmed, λ h. let ok = quiet h in cc) in
+Handles-refused has old new event e known same quiet =
+    let handled : IsOutcome old event NoMemory new = (known, same, λ h. let ok = quiet h in cc) in
     record {
       event = event;
       handled = handled;

@@ -16,8 +16,7 @@ use thiserror::Error;
 pub enum Turn {
     /// An event was answered. `failed` is the number of the event's sends that failed.
     Done { verdict: Verdict, failed: u64 },
-    /// Memory ran out for handling an event. The event has no effect, except that the cache may
-    /// have dropped Data.
+    /// Memory ran out for handling an event. The event has no effect.
     Refused,
     /// An event was answered but could not be journalled. None of the event's packets is sent, and
     /// the node must stop.
@@ -55,10 +54,9 @@ pub struct Served {
 /// port ends or a fault (`ServeFault`) occurs.
 ///
 /// A failed send is counted and does not prevent other sends. An event for which memory runs out is
-/// counted, and has no other effect, except that the cache may have dropped Data. If a
-/// packet is longer than 9,001 octets, only its first 9,001 octets are read, and the node drops the
-/// packet as too long. If the port fails to give the next arrival, all earlier events remain
-/// handled.
+/// counted, and has no other effect. If a packet is longer than 9,001 octets, only its first 9,001
+/// octets are read, and the node drops the packet as too long. If the port fails to give the next
+/// arrival, all earlier events remain handled.
 pub fn serve<P: Ports>(
     alloc: Global,
     node: &mut Node,

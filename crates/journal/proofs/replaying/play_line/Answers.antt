@@ -1,9 +1,10 @@
 use Rattle.forwarder.specs.Event.{plain}
-use Rattle.journal.proofs.Replays.{plays_step, unharmed}
+use Rattle.std.proofs.Common.{refl}
+use Rattle.journal.proofs.Replays.{plays_step}
 use Rattle.journal.proofs.replaying.play_line.Goals as goal
 
 pub returns-in-Err-clause-stopped : goal.returns-in-Err-clause-stopped
-returns-in-Err-clause-stopped c = unharmed c.args.node.now
+returns-in-Err-clause-stopped c = refl
 
 pub returns-in-Ok-clause-played : goal.returns-in-Ok-clause-played
 returns-in-Ok-clause-played c =

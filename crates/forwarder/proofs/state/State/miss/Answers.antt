@@ -8,15 +8,15 @@ use Rattle.forwarder.specs.Handling.{token_of}
 use Rattle.forwarder.specs.Event.{Send, nacked_back}
 use Rattle.forwarder.specs.SendSpace.{SendsState}
 use Rattle.forwarder.specs.State.{IsLater, state_of}
-use Rattle.forwarder.proofs.Answered.{refused_packet, sure_packet, unharmed}
+use Rattle.forwarder.proofs.Answered.{refused_packet, sure_packet, unchanged}
 use Rattle.forwarder.proofs.Answering.{forwards_handled, interest_is_short, later_sound, loop_answered, served_then, uncached_then}
 use Rattle.forwarder.proofs.state.State.miss.Goals as goal
 
 pub returns-in_err-prepare : goal.returns-in_err-prepare
-returns-in_err-prepare c = refused_packet c.from_residual.result c.from_residual.ensures.0 (unharmed _ _ refl c.prepare.ensures.pending refl, refl)
+returns-in_err-prepare c = refused_packet c.from_residual.result c.from_residual.ensures.0 (unchanged _ _ refl c.prepare.ensures.pending refl, refl)
 
 pub returns-in_err-reserve : goal.returns-in_err-reserve
-returns-in_err-reserve c = refused_packet c.from_residual-in_err-reserve.result c.from_residual-in_err-reserve.ensures.0 (unharmed _ _ refl c.prepare.ensures.pending refl, c.reserve.ensures.sends)
+returns-in_err-reserve c = refused_packet c.from_residual-in_err-reserve.result c.from_residual-in_err-reserve.ensures.0 (unchanged _ _ refl c.prepare.ensures.pending refl, c.reserve.ensures.sends)
 
 pub nack_loop-requires-clause-space : goal.nack_loop-requires-clause-space
 nack_loop-requires-clause-space c =

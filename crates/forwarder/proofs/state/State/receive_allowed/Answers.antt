@@ -7,18 +7,18 @@ use Rattle.forwarder.specs.Event.{Send}
 use Rattle.forwarder.specs.Handling.{token_of}
 use Rattle.forwarder.specs.Policy.{Policy}
 use Rattle.forwarder.specs.State.{IsLater, policy_of, state_of}
-use Rattle.forwarder.proofs.Answered.{data_delivered, later_scope, refused_packet, still_wanted, unharmed}
+use Rattle.forwarder.proofs.Answered.{data_delivered, later_scope, refused_packet, still_wanted, unchanged}
 use Rattle.forwarder.proofs.NackSteps.{expired_bare}
 use Rattle.forwarder.proofs.state.State.receive_allowed.Goals as goal
 
 pub returns-in_err-prepare_offer : goal.returns-in_err-prepare_offer
 returns-in_err-prepare_offer c =
-    refused_packet c.from_residual.result c.from_residual.ensures.0 (unharmed _ _ (λ j. record (policy_of c.args.self.now) { repo = c.prepare_offer.ensures.start j; held = c.prepare_offer.ensures.held j }) refl refl, refl)
+    refused_packet c.from_residual.result c.from_residual.ensures.0 (unchanged _ _ (λ j. record (policy_of c.args.self.now) { repo = c.prepare_offer.ensures.start j; held = c.prepare_offer.ensures.held j }) refl refl, refl)
 
 pub returns-in_err-reserve : goal.returns-in_err-reserve
 returns-in_err-reserve c =
     refused_packet c.from_residual-in_err-reserve.result c.from_residual-in_err-reserve.ensures.0
-    (unharmed _ _ (λ j. record (policy_of c.args.self.now) { repo = c.prepare_offer.ensures.start j; held = c.prepare_offer.ensures.held j }) refl refl, c.reserve.ensures.sends)
+    (unchanged _ _ (λ j. record (policy_of c.args.self.now) { repo = c.prepare_offer.ensures.start j; held = c.prepare_offer.ensures.held j }) refl refl, c.reserve.ensures.sends)
 
 pub deliver-requires-clause-prepared : goal.deliver-requires-clause-prepared
 deliver-requires-clause-prepared c = λ wanted.

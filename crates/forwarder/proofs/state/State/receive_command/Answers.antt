@@ -4,44 +4,44 @@ use Rattle.ndn_packets.specs.View.{plain_interest}
 use Rattle.forwarder.specs.Request.{ForRepository, ForTables, request_named, request_of}
 use Rattle.forwarder.specs.Handling.{token_of}
 use Rattle.forwarder.specs.State.{policy_of, state_of}
-use Rattle.forwarder.proofs.Answered.{refused_packet, unharmed}
-use Rattle.forwarder.proofs.Refused.{carried_handled, denied_handled, kept_unharmed, no_rule_handled, other_command, said_as, with_guard}
+use Rattle.forwarder.proofs.Answered.{refused_packet, unchanged}
+use Rattle.forwarder.proofs.Refused.{carried_handled, denied_handled, no_rule_handled, other_command, said_as, with_guard}
 use Rattle.forwarder.proofs.state.State.receive_command.Goals as goal
 
 pub returns-in_err-rule : goal.returns-in_err-rule
-returns-in_err-rule c = refused_packet c.from_residual.result c.from_residual.ensures.0 (unharmed _ _ refl refl refl, refl)
+returns-in_err-rule c = refused_packet c.from_residual.result c.from_residual.ensures.0 (unchanged _ _ refl refl refl, refl)
 
 pub returns-in_err-prepare_record-in-Allowed : goal.returns-in_err-prepare_record-in-Allowed
 returns-in_err-prepare_record-in-Allowed c =
     refused_packet c.from_residual-in_err-prepare_record-in-Allowed.result c.from_residual-in_err-prepare_record-in-Allowed.ensures.0
-    (unharmed _ _ (λ j. record (policy_of c.args.self.now) { guard = c.prepare_record.ensures.latest j }) refl refl, refl)
+    (unchanged _ _ (λ j. record (policy_of c.args.self.now) { guard = c.prepare_record.ensures.latest j }) refl refl, refl)
 
 pub returns-in_err-status-in-ForTables : goal.returns-in_err-status-in-ForTables
 returns-in_err-status-in-ForTables c =
     let prepared = with_guard (state_of c.args.self.now) c.prepare_record.new.guard.latest c.prepare_record.ensures.latest in
     let kept = c.in_err-status-in-ForTables.ensures.memory in
     refused_packet c.from_residual-in_err-status-in-ForTables.result c.from_residual-in_err-status-in-ForTables.ensures.0
-    (kept_unharmed (state_of c.args.self.now) (state_of c.command_tables.new.self) c.args.out.now.sends c.command_tables.new.out.sends (kept.0 ∙ prepared, kept.1))
+    (kept.0 ∙ prepared, kept.1)
 
 pub returns-in_err-status-in_default : goal.returns-in_err-status-in_default
 returns-in_err-status-in_default c =
     let prepared = with_guard (state_of c.args.self.now) c.prepare_record.new.guard.latest c.prepare_record.ensures.latest in
     let kept = c.in_err-status-in_default.ensures.memory in
     refused_packet c.from_residual-in_err-status-in_default.result c.from_residual-in_err-status-in_default.ensures.0
-    (kept_unharmed (state_of c.args.self.now) (state_of c.command_repository.new.self) c.args.out.now.sends c.command_repository.new.out.sends (kept.0 ∙ prepared, kept.1))
+    (kept.0 ∙ prepared, kept.1)
 
 pub returns-in_err-text-in-Denied : goal.returns-in_err-text-in-Denied
-returns-in_err-text-in-Denied c = refused_packet c.from_residual-in_err-text-in-Denied.result c.from_residual-in_err-text-in-Denied.ensures.0 (unharmed _ _ refl refl refl, refl)
+returns-in_err-text-in-Denied c = refused_packet c.from_residual-in_err-text-in-Denied.result c.from_residual-in_err-text-in-Denied.ensures.0 (unchanged _ _ refl refl refl, refl)
 
 pub returns-in_err-refuse-in-Denied : goal.returns-in_err-refuse-in-Denied
 returns-in_err-refuse-in-Denied c =
     refused_packet c.from_residual-in_err-refuse-in-Denied.result c.from_residual-in_err-refuse-in-Denied.ensures.0
-    (kept_unharmed (state_of c.args.self.now) (state_of c.refuse.new.self) c.args.out.now.sends c.refuse.new.out.sends c.in_err-refuse-in-Denied.ensures.memory)
+    c.in_err-refuse-in-Denied.ensures.memory
 
 pub returns-in_err-refuse-in-NoRule : goal.returns-in_err-refuse-in-NoRule
 returns-in_err-refuse-in-NoRule c =
     refused_packet c.from_residual-in_err-refuse-in-NoRule.result c.from_residual-in_err-refuse-in-NoRule.ensures.0
-    (kept_unharmed (state_of c.args.self.now) (state_of c.refuse-in-NoRule.new.self) c.args.out.now.sends c.refuse-in-NoRule.new.out.sends c.in_err-refuse-in-NoRule.ensures.memory)
+    c.in_err-refuse-in-NoRule.ensures.memory
 
 pub returns-in_ok-status-in-ForTables : goal.returns-in_ok-status-in-ForTables
 returns-in_ok-status-in-ForTables c = record {

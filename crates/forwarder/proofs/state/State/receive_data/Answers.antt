@@ -10,7 +10,7 @@ use Rattle.forwarder.specs.Deciding.{IsDecidedAs}
 use Rattle.forwarder.specs.State.{policy_of, state_of}
 use Rattle.forwarder.specs.Verdict.{verdict_of}
 use Rattle.forwarder.specs.declared.verdict.Verdict as code
-use Rattle.forwarder.proofs.Answered.{data_by_no_rule, data_denied, data_out_of_scope, later_scope, refused_packet, unharmed}
+use Rattle.forwarder.proofs.Answered.{data_by_no_rule, data_denied, data_out_of_scope, later_scope, refused_packet, unchanged}
 use Rattle.forwarder.proofs.state.State.receive_data.Goals as goal
 
 pub returns-then-is_out_of_scope-clause-handles : goal.returns-then-is_out_of_scope-clause-handles
@@ -32,7 +32,7 @@ returns-then-is_out_of_scope-clause-handles c = record {
 }
 
 pub returns-in_err-rule-clause-handles : goal.returns-in_err-rule-clause-handles
-returns-in_err-rule-clause-handles c = refused_packet c.from_residual.result c.from_residual.ensures.0 (unharmed _ _ refl refl refl, refl)
+returns-in_err-rule-clause-handles c = refused_packet c.from_residual.result c.from_residual.ensures.0 (unchanged _ _ refl refl refl, refl)
 
 pub receive_allowed-requires-clause-allowed : goal.receive_allowed-requires-clause-allowed
 receive_allowed-requires-clause-allowed c = λ p rules keys.

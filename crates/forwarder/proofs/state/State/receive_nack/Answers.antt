@@ -16,7 +16,7 @@ use Rattle.forwarder.specs.Replies.{nack_answer, nacks_to}
 use Rattle.forwarder.specs.State.{state_of}
 use Rattle.forwarder.specs.Verdict.{verdict_of}
 use Rattle.forwarder.specs.declared.verdict.Verdict as code
-use Rattle.forwarder.proofs.Answered.{later_scope, refused_packet, unharmed}
+use Rattle.forwarder.proofs.Answered.{later_scope, refused_packet, unchanged}
 use Rattle.forwarder.proofs.NackSteps.{awaited_alive, expired_room, nack_answered, nack_out_of_scope, nacked_asks, removed_causes, unknown_nack}
 use Rattle.forwarder.proofs.state.State.receive_nack.Goals as goal
 
@@ -39,10 +39,10 @@ returns-then-is_out_of_scope-clause-handles c = record {
 }
 
 pub returns-in_err-room-clause-handles : goal.returns-in_err-room-clause-handles
-returns-in_err-room-clause-handles c = refused_packet c.from_residual.result c.from_residual.ensures.0 (unharmed _ _ refl refl refl, refl)
+returns-in_err-room-clause-handles c = refused_packet c.from_residual.result c.from_residual.ensures.0 (unchanged _ _ refl refl refl, refl)
 
 pub returns-in_err-reserve-clause-handles : goal.returns-in_err-reserve-clause-handles
-returns-in_err-reserve-clause-handles c = refused_packet c.from_residual-in_err-reserve.result c.from_residual-in_err-reserve.ensures.0 (unharmed _ _ refl refl refl, c.reserve.ensures.sends)
+returns-in_err-reserve-clause-handles c = refused_packet c.from_residual-in_err-reserve.result c.from_residual-in_err-reserve.ensures.0 (unchanged _ _ refl refl refl, c.reserve.ensures.sends)
 
 pub push_nacks-requires-clause-known : goal.push_nacks-requires-clause-known
 push_nacks-requires-clause-known c = λ f some.

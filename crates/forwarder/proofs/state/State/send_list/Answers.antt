@@ -9,12 +9,12 @@ use Rattle.forwarder.specs.Handling.{IsAnswered, token_of}
 use Rattle.forwarder.specs.State.{state_of}
 use Rattle.forwarder.specs.Verdict.{dropped, NoSegment, passed, verdict_of}
 use Rattle.forwarder.specs.declared.verdict.Verdict as code
-use Rattle.forwarder.proofs.Answered.{refused_packet, unharmed}
+use Rattle.forwarder.proofs.Answered.{refused_packet, unchanged}
 use Rattle.forwarder.proofs.ListSteps.{list_handled, then_listed}
 use Rattle.forwarder.proofs.state.State.send_list.Goals as goal
 
 pub returns-in_err-octets : goal.returns-in_err-octets
-returns-in_err-octets c = refused_packet c.from_residual.result c.from_residual.ensures.0 (unharmed _ _ refl refl refl, refl)
+returns-in_err-octets c = refused_packet c.from_residual.result c.from_residual.ensures.0 (unchanged _ _ refl refl refl, refl)
 
 pub returns-in_default : goal.returns-in_default
 returns-in_default c = record {
@@ -40,7 +40,7 @@ returns-in_default c = record {
 }
 
 pub returns-in_err-push_back : goal.returns-in_err-push_back
-returns-in_err-push_back c = refused_packet c.from_residual-in_err-push_back.result c.from_residual-in_err-push_back.ensures.0 (unharmed _ _ refl refl refl, c.in_err-push_back.ensures.err)
+returns-in_err-push_back c = refused_packet c.from_residual-in_err-push_back.result c.from_residual-in_err-push_back.ensures.0 (unchanged _ _ refl refl refl, c.in_err-push_back.ensures.err)
 
 pub returns : goal.returns
 returns c = record {

@@ -10,12 +10,12 @@ use Rattle.forwarder.specs.Handling.{token_of}
 use Rattle.forwarder.specs.Event.{Send, nacked_back, sent_back}
 use Rattle.forwarder.specs.SendSpace.{SendsState}
 use Rattle.forwarder.specs.State.{IsLater, state_of}
-use Rattle.forwarder.proofs.Answered.{refused_packet, unharmed}
+use Rattle.forwarder.proofs.Answered.{refused_packet, unchanged}
 use Rattle.forwarder.proofs.Answering.{CanGoBack, cache_answered, cached_goes_back, interest_is_short, least_then, loop_answered, nothing_served}
 use Rattle.forwarder.proofs.state.State.serve_cached.Goals as goal
 
 pub returns-in_err-reserve : goal.returns-in_err-reserve
-returns-in_err-reserve c = refused_packet c.from_residual.result c.from_residual.ensures.0 (unharmed _ _ refl refl refl, c.reserve.ensures.sends)
+returns-in_err-reserve c = refused_packet c.from_residual.result c.from_residual.ensures.0 (unchanged _ _ refl refl refl, c.reserve.ensures.sends)
 
 pub nack_loop-requires-clause-space : goal.nack_loop-requires-clause-space
 nack_loop-requires-clause-space c =

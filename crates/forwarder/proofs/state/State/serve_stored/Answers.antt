@@ -11,12 +11,12 @@ use Rattle.forwarder.specs.Event.{Send, nacked_back, sent_back}
 use Rattle.forwarder.specs.Policy.{Policy}
 use Rattle.forwarder.specs.SendSpace.{SendsState}
 use Rattle.forwarder.specs.State.{IsLater, state_of}
-use Rattle.forwarder.proofs.Answered.{refused_packet, unharmed}
+use Rattle.forwarder.proofs.Answered.{refused_packet, unchanged}
 use Rattle.forwarder.proofs.Answering.{CanGoBack, interest_is_short, loop_answered, repository_answered, served_goes_back, uncached_then}
 use Rattle.forwarder.proofs.state.State.serve_stored.Goals as goal
 
 pub returns-in_err-reserve : goal.returns-in_err-reserve
-returns-in_err-reserve c = refused_packet c.from_residual.result c.from_residual.ensures.0 (unharmed _ _ refl refl refl, c.reserve.ensures.sends)
+returns-in_err-reserve c = refused_packet c.from_residual.result c.from_residual.ensures.0 (unchanged _ _ refl refl refl, c.reserve.ensures.sends)
 
 pub nack_loop-requires-clause-space : goal.nack_loop-requires-clause-space
 nack_loop-requires-clause-space c =
