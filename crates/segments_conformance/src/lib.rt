@@ -6,6 +6,8 @@ mod arrivals;
 #[cfg(test)]
 mod files;
 #[cfg(test)]
+mod pipelines;
+#[cfg(test)]
 mod rows;
 #[cfg(test)]
 mod written;

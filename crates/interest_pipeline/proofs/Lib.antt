@@ -1,0 +1,10 @@
+pub mod Settling
+pub mod Soonest
+pub mod Placing
+pub mod Picking
+pub mod Following
+pub mod Steps
+pub mod Runs
+pub mod Sound
+pub mod Counting
+pub mod Halving
