@@ -1,13 +1,14 @@
 -- How many segments are in flight, and what a pipeline waits for.
-use Rattle.std.proofs.Common.{◌≡◌, ◌≤◌, ◌<◌, ◌+◌, ◌-◌, ◌^◌, ◌&&◌, ◌||◌, cond, ℕ, Bool, true, false, List, [], ◌∷◌, length, Some, None, refl, ap, arith, inl, inr}
+use Rattle.std.proofs.Common.{◌≡◌, ◌≤◌, ◌<◌, ◌+◌, ◌-◌, ◌^◌, ◌&&◌, ◌||◌, cond, ℕ, Bool, true, false, List, [], ◌∷◌, length, Some, None, refl, ap, arith, inl, inr, if◌then◌else◌}
 use Rattle.std.specs.Prelude.{Option, nat_lt, nat_le, is_some, option_map, position}
 use Rattle.std.specs.List.{count_by}
+use Rattle.std.specs.Option.{option_or}
 use Rattle.std.proofs.lemmas.Bool.{lt-ltb, le-ltb, ltb-true, ltb-false, both_ways}
 use Rattle.std.proofs.lemmas.List.Sums.{count_by-le-length, sum_by-cons, sum_by-set, sum_by_push}
 use Rattle.interest_pipeline.specs.declared.place.Place.{Place}
 use Rattle.interest_pipeline.specs.declared.place.Place.TheVariants.{Answered, InFlight, Lost}
 use Rattle.interest_pipeline.specs.Places.{deadline_of, is_answered, is_in_flight, is_lost, sooner, soonest}
-use Rattle.interest_pipeline.specs.Flight.{FlightState, IsEnded, has_new, in_flight_of, is_wanted, lost_or_new, next_new, pick, put}
+use Rattle.interest_pipeline.specs.Flight.{FlightState, IsEnded, has_new, in_flight_of, is_wanted, next_new, pick, put}
 use Rattle.interest_pipeline.specs.Pipeline.{PipelineState, choice, deadline_of as wake_of, number_to_send, sending_at, sent, start}
 use Rattle.interest_pipeline.specs.Runs.{Call, state_after}
 use Rattle.interest_pipeline.proofs.Picking.{chosen, found, picked}
@@ -103,7 +104,7 @@ picks : (f : FlightState) → IsFront f.places → soonest f.places ≡ None →
     → is_some (pick f) ≡ true
 picks f front none some small going = by (position is_lost f.places) refl
   where
-    by : (o : Option ℕ) → position is_lost f.places ≡ o → is_some (lost_or_new o f) ≡ true
+    by : (o : Option ℕ) → position is_lost f.places ≡ o → is_some (option_or o (if has_new f then Some (length f.places) else None)) ≡ true
     by (Some i) e = refl
     by None e = rw (first_new f (lost_or_none f.places front none e) some small going) refl
 

@@ -8,3 +8,4 @@ pub mod Runs
 pub mod Sound
 pub mod Counting
 pub mod Halving
+pub mod GivingUp

@@ -2,6 +2,7 @@
 use Rattle.std.proofs.Common.{◌≡◌, ◌<◌, ◌+◌, ◌⊎◌, ℕ, suc, zero, Bool, true, false, cond, not, List, [], ◌∷◌, length, get_or, Some, None, refl, sym, ap, ◌∙◌, arith, inl, inr, if◌then◌else◌, ◌||◌}
 use Rattle.std.specs.Prelude.{Option, slice_get, position, is_some, nat_le}
 use Rattle.std.specs.List.{position_or_len}
+use Rattle.std.specs.Option.{option_or}
 use Rattle.std.proofs.lemmas.Bool.{lt-ltb}
 use Rattle.std.proofs.lemmas.Option.{cond_some, slice_get-get_or}
 use Rattle.std.proofs.lemmas.List.Quantifiers.{position-Some}
@@ -9,7 +10,7 @@ use Rattle.interest_pipeline.specs.declared.place.Sending.{Sending}
 use Rattle.interest_pipeline.specs.declared.place.Place.{Place}
 use Rattle.interest_pipeline.specs.declared.place.Place.TheVariants.{Answered, InFlight, Lost}
 use Rattle.interest_pipeline.specs.Places.{is_lost}
-use Rattle.interest_pipeline.specs.Flight.{FlightState, has_new, in_flight_of, lost_or_new, pick}
+use Rattle.interest_pipeline.specs.Flight.{FlightState, has_new, in_flight_of, pick}
 use Rattle.interest_pipeline.specs.Pipeline.{PipelineState, choice}
 
 lost_is : (p : Place) → is_lost p ≡ true → (x : Sending) × (p ≡ Lost x)
@@ -28,7 +29,7 @@ IsNewAt f i = (i ≡ length f.places) × (has_new f ≡ true)
 pub picked : (f : FlightState) (i : ℕ) → pick f ≡ Some i → IsLostAt f i ⊎ IsNewAt f i
 picked f i e = by (position is_lost f.places) refl e
   where
-    by : (o : Option ℕ) → position is_lost f.places ≡ o → lost_or_new o f ≡ Some i → IsLostAt f i ⊎ IsNewAt f i
+    by : (o : Option ℕ) → position is_lost f.places ≡ o → option_or o (if has_new f then Some (length f.places) else None) ≡ Some i → IsLostAt f i ⊎ IsNewAt f i
     by (Some j) at e =
         let same : j ≡ i = cc in
         let (within, lost, earlier) = position-Some is_lost f.places i Answered (at ∙ ap Some same) in

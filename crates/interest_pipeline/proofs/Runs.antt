@@ -41,7 +41,7 @@ after_retries s (Loss m) = losing_retries (place_of s.flight m) s m
 after_retries s (Expire now) = expire_retries (list_any (slows now) s.flight.places) _ (with_expired s now) refl
 after_retries s (Last l) = refl
 
-run_retries : (limit retries : ℕ) (calls : List Call) → (state_after (start limit retries) calls).retries ≡ retries
+pub run_retries : (limit retries : ℕ) (calls : List Call) → (state_after (start limit retries) calls).retries ≡ retries
 run_retries limit retries [] = refl
 run_retries limit retries (call ∷ earlier) =
     after_retries (state_after (start limit retries) earlier) call ∙ run_retries limit retries earlier

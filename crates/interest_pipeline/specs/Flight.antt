@@ -1,6 +1,7 @@
 -- The segments that have been asked for and those that may be asked for.
 use Rattle.std.specs.Prelude.{◌≡◌, ℕ, ◌+◌, ◌-◌, ◌^◌, ◌<◌, ◌≤◌, nat_lt, nat_le, ◌&&◌, Bool, true, List, [], ◌∷◌, ◌++◌, length, map, drop, take, slice_get, slice_set, position, Option, None, Some, if◌then◌else◌}
 use Rattle.std.specs.List.{count_by, prefix_len}
+use Rattle.std.specs.Option.{option_or}
 use Rattle.interest_pipeline.specs.declared.place.Place.{Place}
 use Rattle.interest_pipeline.specs.declared.place.Place.TheVariants.{Answered}
 use Rattle.interest_pipeline.specs.Places.{is_answered, is_in_flight, is_lost, spare}
@@ -42,13 +43,10 @@ has_new f =
     nat_lt (length f.places) f.limit && nat_lt (next_new f) (2 ^ 64 - 1)
     && is_wanted f.last (next_new f)
 
--- The place of the segment to send, counted from `base`: the first lost one, or else a new one.
-abbrev pub lost_or_new : Option ℕ → FlightState → Option ℕ
-lost_or_new (Some index) f = Some index
-lost_or_new None f = if has_new f then Some (length f.places) else None
-
+-- the place of the segment to send, counted from `base`: the first lost one, or else a new one
 abbrev pub pick : FlightState → Option ℕ
-pick f = lost_or_new (position is_lost f.places) f
+pick f =
+    option_or (position is_lost f.places) (if has_new f then Some (length f.places) else None)
 
 -- what is true of the place of a segment to send: there is room for a new one
 abbrev pub IsPlace : FlightState → ℕ → Type 0

@@ -4,7 +4,7 @@ use Rattle.std.specs.List.{list_any}
 use Rattle.std.specs.Option.{option_or}
 use Rattle.interest_pipeline.specs.declared.place.Sending.{Sending}
 use Rattle.interest_pipeline.specs.declared.place.Place.{Place}
-use Rattle.interest_pipeline.specs.declared.place.Place.TheVariants.{Answered, InFlight, Lost}
+use Rattle.interest_pipeline.specs.declared.place.Place.TheVariants.{InFlight, Lost}
 use Rattle.interest_pipeline.specs.declared.fault.PipelineFault.{PipelineFault}
 use Rattle.interest_pipeline.specs.declared.fault.PipelineFault.TheVariants as fault
 use Rattle.interest_pipeline.specs.declared.window.TheConstants.{GREATEST_WINDOW}
@@ -52,10 +52,8 @@ number_to_send s = option_map (λ index. s.flight.base + index) (choice s)
 
 -- how many sendings of a segment are left after it has been sent at this place
 abbrev pub left_after : Option Place → ℕ → ℕ
-left_after None retries = retries
-left_after (Some Answered) retries = retries
-left_after (Some (InFlight x)) retries = retries
 left_after (Some (Lost x)) retries = x.left - 1
+left_after place retries = retries
 
 abbrev pub sending_at : PipelineState → ℕ → ℕ → Sending
 sending_at s now index = record {
@@ -86,10 +84,9 @@ with_answer s number now x = record s {
 
 -- An answer to a segment that has not been asked for, or has been answered, changes nothing.
 abbrev pub answering : Option Place → PipelineState → ℕ → ℕ → PipelineState
-answering None s number now = s
-answering (Some Answered) s number now = s
 answering (Some (InFlight x)) s number now = with_answer s number now x
 answering (Some (Lost x)) s number now = with_answer s number now x
+answering place s number now = s
 
 abbrev pub after_answer : PipelineState → ℕ → ℕ → PipelineState
 after_answer s number now = answering (place_of s.flight number) s number now
@@ -108,11 +105,9 @@ with_loss s number x = record s {
 
 -- Only a segment in flight can be lost.
 abbrev pub losing : Option Place → PipelineState → ℕ → PipelineState
-losing None s number = s
-losing (Some Answered) s number = s
 losing (Some (InFlight x)) s number =
     if x.spared then with_loss s number x else slowed (with_loss s number x)
-losing (Some (Lost x)) s number = s
+losing place s number = s
 
 abbrev pub after_loss : PipelineState → ℕ → PipelineState
 after_loss s number = losing (place_of s.flight number) s number

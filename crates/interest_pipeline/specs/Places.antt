@@ -5,43 +5,37 @@ use Rattle.interest_pipeline.specs.declared.place.Place.TheVariants.{Answered, I
 
 abbrev pub is_answered : Place → Bool
 is_answered Answered = true
-is_answered (InFlight s) = false
-is_answered (Lost s) = false
+is_answered place = false
 
 abbrev pub is_in_flight : Place → Bool
-is_in_flight Answered = false
-is_in_flight (InFlight s) = true
-is_in_flight (Lost s) = false
+is_in_flight (InFlight x) = true
+is_in_flight place = false
 
+-- the segment waits to be sent again
 abbrev pub is_lost : Place → Bool
-is_lost Answered = false
-is_lost (InFlight s) = false
-is_lost (Lost s) = true
+is_lost (Lost x) = true
+is_lost place = false
 
 -- whether the segment is lost at this moment, and its loss halves the window: it was sent after the
 -- window was halved last
 abbrev pub slows : ℕ → Place → Bool
-slows now Answered = false
-slows now (InFlight s) = nat_le s.deadline now && not s.spared
-slows now (Lost s) = false
+slows now (InFlight x) = nat_le x.deadline now && not x.spared
+slows now place = false
 
 -- whether the segment is lost at this moment, and may not be sent again
 abbrev pub is_spent : ℕ → Place → Bool
-is_spent now Answered = false
-is_spent now (InFlight s) = nat_le s.deadline now && s.left == 0
-is_spent now (Lost s) = false
+is_spent now (InFlight x) = nat_le x.deadline now && x.left == 0
+is_spent now place = false
 
 -- the segment is lost, if its time is out
 abbrev pub expire : ℕ → Place → Place
-expire now Answered = Answered
-expire now (InFlight s) = if nat_le s.deadline now then Lost s else InFlight s
-expire now (Lost s) = Lost s
+expire now (InFlight x) = if nat_le x.deadline now then Lost x else InFlight x
+expire now place = place
 
 -- the loss of a segment in flight does not halve the window any more
 abbrev pub spare : Place → Place
-spare Answered = Answered
-spare (InFlight s) = InFlight (record s { spared = true })
-spare (Lost s) = Lost s
+spare (InFlight x) = InFlight (record x { spared = true })
+spare place = place
 
 -- the sooner of two moments
 abbrev pub sooner : Option ℕ → Option ℕ → Option ℕ
@@ -50,9 +44,8 @@ sooner (Some a) None = Some a
 sooner (Some a) (Some b) = Some (min a b)
 
 abbrev pub deadline_of : Place → Option ℕ
-deadline_of Answered = None
-deadline_of (InFlight s) = Some s.deadline
-deadline_of (Lost s) = None
+deadline_of (InFlight x) = Some x.deadline
+deadline_of place = None
 
 -- the least deadline of the segments in flight
 abbrev pub soonest : List Place → Option ℕ

@@ -38,12 +38,11 @@ smoothed_with (Some s) r = later s r
 abbrev pub rto_of : Smoothed → ℕ
 rto_of s = max LEAST_RTO (min (s.srtt8 / 8 + max GRANULARITY s.rttvar4) GREATEST_RTO)
 
-abbrev pub with_smoothed : Smoothed → Rtt
-with_smoothed s = record { smoothed = Some s; rto = rto_of s }
-
 -- after a sample; one above the greatest RTO counts as the greatest RTO
 abbrev pub sampled : Rtt → ℕ → Rtt
-sampled t r = with_smoothed (smoothed_with t.smoothed (min r GREATEST_RTO))
+sampled t r =
+    let s = smoothed_with t.smoothed (min r GREATEST_RTO) in
+    record { smoothed = Some s; rto = rto_of s }
 
 -- after a timeout (section 5, rule 5.5)
 abbrev pub backed_off : Rtt → Rtt

@@ -3,7 +3,7 @@ use Rattle.std.specs.Prelude.{◌≡◌, ℕ, ◌+◌, nat_lt, ◌&&◌, ◌||�
 use Rattle.std.specs.List.{list_any}
 use Rattle.interest_pipeline.specs.declared.place.Sending.{Sending}
 use Rattle.interest_pipeline.specs.declared.place.Place.{Place}
-use Rattle.interest_pipeline.specs.declared.place.Place.TheVariants.{Answered, InFlight, Lost}
+use Rattle.interest_pipeline.specs.declared.place.Place.TheVariants.{InFlight, Lost}
 use Rattle.interest_pipeline.specs.Places.{slows}
 use Rattle.interest_pipeline.specs.Flight.{place_of}
 use Rattle.interest_pipeline.specs.Pipeline.{PipelineState, after_answer, after_expire, after_last, after_loss, after_next, number_to_send}
@@ -34,10 +34,7 @@ is_number (Some sent) number = sent == number
 -- whether the call sends the segment with this number
 abbrev pub sends : PipelineState → Call → ℕ → Bool
 sends s (Next now) number = is_number (number_to_send s) number
-sends s (Answer other now) number = false
-sends s (Loss other) number = false
-sends s (Expire now) number = false
-sends s (Last other) number = false
+sends s call number = false
 
 -- how often the segment was sent
 abbrev pub sendings_of : PipelineState → List Call → ℕ → ℕ
@@ -48,11 +45,8 @@ sendings_of first (call ∷ earlier) number =
 
 -- whether the call is an answer to the segment
 abbrev pub is_answer : Call → ℕ → Bool
-is_answer (Next now) number = false
 is_answer (Answer other now) number = other == number
-is_answer (Loss other) number = false
-is_answer (Expire now) number = false
-is_answer (Last other) number = false
+is_answer call number = false
 
 -- whether an answer to the segment came after the segment had been sent
 abbrev pub was_answered : PipelineState → List Call → ℕ → Bool
@@ -70,15 +64,11 @@ IsLost s number = (x : Sending) × (place_of s.flight number ≡ Some (Lost x))
 
 -- whether the loss of this place halves the window
 abbrev pub counts : Option Place → Bool
-counts None = false
-counts (Some Answered) = false
 counts (Some (InFlight x)) = not x.spared
-counts (Some (Lost x)) = false
+counts place = false
 
 -- whether the call halves the window
 abbrev pub halves : PipelineState → Call → Bool
-halves s (Next now) = false
-halves s (Answer number now) = false
 halves s (Loss number) = counts (place_of s.flight number)
 halves s (Expire now) = list_any (slows now) s.flight.places
-halves s (Last number) = false
+halves s call = false

@@ -1,5 +1,5 @@
 -- The congestion window (RFC 5681, section 3.1), counted in segments.
-use Rattle.std.specs.Prelude.{ℕ, ◌+◌, ◌/◌, ◌≤◌, min, max, nat_lt, if◌then◌else◌}
+use Rattle.std.specs.Prelude.{ℕ, ◌+◌, ◌/◌, min, max, nat_lt, if◌then◌else◌}
 use Rattle.interest_pipeline.specs.declared.window.TheConstants.{LEAST_WINDOW}
 
 -- a window as plain data
@@ -34,8 +34,3 @@ half_of w = min (max (w.cwnd / 2) LEAST_WINDOW) w.limit
 -- after a loss
 abbrev pub halved : WindowState → WindowState
 halved w = record w { cwnd = half_of w; ssthresh = half_of w; counted = 0 }
-
--- what is true of every window
-abbrev pub IsOpen : WindowState → Type 0
-IsOpen w = (1 ≤ w.cwnd) × (min LEAST_WINDOW w.limit ≤ w.cwnd) × (w.cwnd ≤ w.limit)
-    × (w.ssthresh ≤ w.limit)

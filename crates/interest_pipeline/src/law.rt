@@ -1,13 +1,13 @@
 //! Laws on all sequences of calls.
 
-ghost use Rattle.std.specs.Prelude.{◌≡◌, ◌≤◌, ◌<◌, ◌+◌, ◌-◌, ◌*◌, ◌/◌, ◌^◌, ◌⊎◌, ◌||◌, min, ℕ, List, None, Some, true, false, is_some};
+ghost use Rattle.std.specs.Prelude.{◌≡◌, ◌≢◌, ◌≤◌, ◌<◌, ◌+◌, ◌-◌, ◌*◌, ◌/◌, ◌^◌, ◌⊎◌, ◌||◌, min, ℕ, List, None, Some, true, false, is_some};
 ghost use Rattle.std.specs.Int.{abs_diff};
 ghost use Rattle.interest_pipeline.specs.declared.rtt.Smoothed.{Smoothed};
 ghost use Rattle.interest_pipeline.specs.Rtt.{IsWithin, later};
 ghost use Rattle.interest_pipeline.specs.Window.{halved};
 ghost use Rattle.interest_pipeline.specs.Flight.{IsEnded, in_flight_of, is_wanted};
 ghost use Rattle.interest_pipeline.specs.Pipeline.{PipelineState, after_next, deadline_of, number_to_send, start};
-ghost use Rattle.interest_pipeline.specs.Runs.{Call, IsInFlight, IsLost, after, halves, sendings_of, state_after, was_answered};
+ghost use Rattle.interest_pipeline.specs.Runs.{Answer, Call, IsInFlight, IsLost, after, halves, sendings_of, state_after, was_answered};
 
 /// Law: after any calls, the window is at most the greatest window, and at least two segments, or
 /// one, if the greatest window is one. A segment is sent only if then no more segments are in flight
@@ -23,7 +23,7 @@ pub fn the_window_limits_what_is_sent()
 {}
 
 /// Law: after any calls, no segment above the last one is sent, none that was answered after it had
-/// been sent, and none more than `retries` + 1 times.
+/// been sent, and none more than `retries` + 1 times. A segment that is given up was sent so often.
 pub fn no_segment_is_sent_too_often()
     ensures wanted { (limit retries number : ℕ) (calls : List Call)
         → let s = state_after (start limit retries) calls in
@@ -33,6 +33,9 @@ pub fn no_segment_is_sent_too_often()
         → was_answered (start limit retries) calls number ≡ false }
     ensures count { (limit retries number : ℕ) (calls : List Call)
         → sendings_of (start limit retries) calls number ≤ retries + 1 }
+    ensures gave_up { (limit retries number : ℕ) (calls : List Call)
+        → (state_after (start limit retries) calls).gave_up ≡ Some number
+        → sendings_of (start limit retries) calls number ≡ retries + 1 }
 {}
 
 /// Law: after any calls, a segment that was sent, and is not above the last one, has been answered,
@@ -69,6 +72,15 @@ pub fn the_window_is_halved_once_for_a_window_of_segments()
         halves s earlier ≡ true → halves t call ≡ true
         → (number : ℕ) × (1 ≤ sendings_of (after s earlier) between number)
         × IsInFlight t number × IsLost (after t call) number }
+{}
+
+/// Law: after any calls, an answer gives a sample of the round-trip time only if its segment was
+/// sent exactly once (RFC 6298, section 3).
+pub fn only_segments_sent_once_give_samples()
+    ensures { (limit retries number now : ℕ) (calls : List Call)
+        → let s = state_after (start limit retries) calls in
+        sendings_of (start limit retries) calls number ≢ 1
+        → (after s (Answer number now)).rtt ≡ s.rtt }
 {}
 
 /// Law: after any calls, the retransmission timeout is within its limits.
