@@ -12,7 +12,7 @@ use Rattle.interest_pipeline.specs.Flight.{FlightState, answered, ended, place_o
 use Rattle.interest_pipeline.specs.Pipeline.{PipelineState, after_expire, answering, choice, losing, sending_at, sent, slowed, start, with_answer, with_expired, with_loss}
 use Rattle.interest_pipeline.specs.Runs.{Call, Next, Answer, Loss, Expire, Last, IsInFlight, IsLost, after, counts, halves, is_number, sendings_of, sends, state_after}
 use Rattle.interest_pipeline.proofs.Picking.{chosen, picked}
-use Rattle.interest_pipeline.proofs.Placing.{HasPlace, at, at-below, at-take, at-take_past, in_flight_has_place, lost_has_place, place_of-index, place_of-map, place_of-push_other, place_of-set_not, place_of-set_other, place_of-set_own, place_of-settled}
+use Rattle.interest_pipeline.proofs.Placing.{HasPlace, at, at-below, at-take, at-take_past, in_flight_has_place, lost_has_place, place_of-index, place_of-map, place_of-push_other, place_of-set_not, place_of-set_other, place_of-set_own, place_of-advanced}
 use Rattle.interest_pipeline.proofs.Sound.{grown_above, sound}
 
 -- ---- other calls do not lower the window
@@ -126,7 +126,7 @@ set_origin f m n p has e = by (m == n) refl
 
 answered_origin : (f : FlightState) (m n : ℕ) → HasPlace f m → Origin false (place_of f n) (place_of (answered f m) n)
 answered_origin f m n has h =
-    set_origin f m n Answered has refl (ap counts (sym (place_of-settled (with_places f (slice_set f.places (m - f.base) Answered)) n)) ∙ h)
+    set_origin f m n Answered has refl (ap counts (sym (place_of-advanced (with_places f (slice_set f.places (m - f.base) Answered)) n)) ∙ h)
 
 answer_origin : (s : PipelineState) (m now n : ℕ) (p : Option Place) → place_of s.flight m ≡ p
     → Origin false (place_of s.flight n) (place_of (answering p s m now).flight n)

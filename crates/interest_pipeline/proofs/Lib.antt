@@ -1,4 +1,4 @@
-pub mod Settling
+pub mod Advancing
 pub mod Soonest
 pub mod Placing
 pub mod Picking

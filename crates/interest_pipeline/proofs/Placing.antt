@@ -8,7 +8,7 @@ use Rattle.interest_pipeline.specs.declared.place.Sending.{Sending}
 use Rattle.interest_pipeline.specs.declared.place.Place.{Place}
 use Rattle.interest_pipeline.specs.declared.place.Place.TheVariants.{Answered, InFlight, Lost}
 use Rattle.interest_pipeline.specs.Places.{is_answered}
-use Rattle.interest_pipeline.specs.Flight.{FlightState, place_of, settled, with_places}
+use Rattle.interest_pipeline.specs.Flight.{FlightState, place_of, advanced, with_places}
 
 -- what is known of the segment `number`, if the places begin with the segment `base`
 unfoldable pub at : ℕ → List Place → ℕ → Option Place
@@ -45,32 +45,32 @@ at_front base places number =
         ∙ sym (at-above base (Answered ∷ places) number above ∙ ap (slice_get (Answered ∷ places)) next)
 
 -- the answered segments at the front can be removed
-settled_at : (base : ℕ) (places : List Place) (number : ℕ)
+advanced_at : (base : ℕ) (places : List Place) (number : ℕ)
     → at (base + prefix_len is_answered places) (drop (prefix_len is_answered places) places) number ≡ at base places number
-settled_at base [] number = ap (λ b. at b [] number) (same base)
+advanced_at base [] number = ap (λ b. at b [] number) (same base)
   where
     same : (n : ℕ) → n + 0 ≡ n
     same n = omega arith
-settled_at base (Answered ∷ places) number =
+advanced_at base (Answered ∷ places) number =
     let count = prefix_len is_answered places in
     let longer : base + (1 + count) ≡ (base + 1) + count = omega arith in
     let next : 1 + count ≡ suc count = omega arith in
     ap (λ b. at b (drop (1 + count) (Answered ∷ places)) number) longer
     ∙ ap (λ c. at ((base + 1) + count) (drop c (Answered ∷ places)) number) next
-    ∙ settled_at (base + 1) places number
+    ∙ advanced_at (base + 1) places number
     ∙ at_front base places number
-settled_at base (InFlight x ∷ places) number = ap (λ b. at b (InFlight x ∷ places) number) (same base)
+advanced_at base (InFlight x ∷ places) number = ap (λ b. at b (InFlight x ∷ places) number) (same base)
   where
     same : (n : ℕ) → n + 0 ≡ n
     same n = omega arith
-settled_at base (Lost x ∷ places) number = ap (λ b. at b (Lost x ∷ places) number) (same base)
+advanced_at base (Lost x ∷ places) number = ap (λ b. at b (Lost x ∷ places) number) (same base)
   where
     same : (n : ℕ) → n + 0 ≡ n
     same n = omega arith
 
-pub place_of-settled : (f : FlightState) (number : ℕ) → place_of (settled f) number ≡ place_of f number
+pub place_of-advanced : (f : FlightState) (number : ℕ) → place_of (advanced f) number ≡ place_of f number
 unfolding at
-place_of-settled f number = settled_at f.base f.places number
+place_of-advanced f number = advanced_at f.base f.places number
 
 -- ---- one place is set
 

@@ -93,14 +93,14 @@ front_take zero places front = tt
 front_take (suc n) [] front = tt
 front_take (suc n) (p ∷ places) front = front
 
-front_settled : (places : List Place) → IsFront (drop (prefix_len is_answered places) places)
-front_settled [] = tt
-front_settled (Answered ∷ places) = rw next (front_settled places)
+front_advanced : (places : List Place) → IsFront (drop (prefix_len is_answered places) places)
+front_advanced [] = tt
+front_advanced (Answered ∷ places) = rw next (front_advanced places)
   where
     next : 1 + prefix_len is_answered places ≡ suc (prefix_len is_answered places)
     next = omega arith
-front_settled (InFlight x ∷ places) = refl
-front_settled (Lost x ∷ places) = refl
+front_advanced (InFlight x ∷ places) = refl
+front_advanced (Lost x ∷ places) = refl
 
 flat_set : (limit : ℕ) (f : FlightState) (i : ℕ) (p : Place) → is_answered p ≡ false → IsFlat limit f → IsFlat limit (with_places f (slice_set f.places i p))
 flat_set limit f i p waits flat = record {
@@ -122,7 +122,7 @@ flat_answered limit f n flat =
     record {
       limit_is = flat.limit_is;
       short = omega (arith, flat.short, length-drop (prefix_len is_answered places) places, length-set f.places (n - f.base) Answered);
-      front = front_settled places;
+      front = front_advanced places;
     }
 
 flat_ended : (limit : ℕ) (f : FlightState) (o : Option ℕ) (last : ℕ) → IsFlat limit f → IsFlat limit (ended o f last)

@@ -12,7 +12,7 @@ use Rattle.interest_pipeline.specs.Places.{expire, is_spent, slows, spare}
 use Rattle.interest_pipeline.specs.Flight.{FlightState, answered, ended, is_wanted, place_of, spared_all, with_places}
 use Rattle.interest_pipeline.specs.Pipeline.{PipelineState, after_expire, answering, losing, slowed, with_expired, with_loss}
 use Rattle.interest_pipeline.proofs.Picking.{found}
-use Rattle.interest_pipeline.proofs.Placing.{HasPlace, at, at-below, at-take, at-take_past, in_flight_has_place, lost_has_place, place_of-map, place_of-set_not, place_of-set_own, place_of-settled}
+use Rattle.interest_pipeline.proofs.Placing.{HasPlace, at, at-below, at-take, at-take_past, in_flight_has_place, lost_has_place, place_of-map, place_of-set_not, place_of-set_own, place_of-advanced}
 use Rattle.interest_pipeline.proofs.Following.{IsKnown, known_count, moved, raised, spared_known}
 
 -- ---- an answer to the segment `m`
@@ -70,13 +70,13 @@ taken r w u f m n k a p here has counts known = by (m == n) refl
         let same = eqb-true m n e in
         let count = counts (moved r w u (Some p) (place_of f n) k k a a (sym here ∙ ap (place_of f) same) refl refl known) in
         moved r w u _ (Some Answered) k k _ true
-        (place_of-settled (with_places f (slice_set f.places (m - f.base) Answered)) n
+        (place_of-advanced (with_places f (slice_set f.places (m - f.base) Answered)) n
         ∙ ap (place_of (with_places f (slice_set f.places (m - f.base) Answered))) (sym same)
         ∙ place_of-set_own f m Answered has)
         refl (hit_own m n k a e count.0) (count.1, refl)
     by false e =
         moved r w u _ (place_of f n) k k _ a
-        (place_of-settled (with_places f (slice_set f.places (m - f.base) Answered)) n
+        (place_of-advanced (with_places f (slice_set f.places (m - f.base) Answered)) n
         ∙ place_of-set_not f m n Answered has (λ same. both_ways (m == n) e (eq-eqb m n (sym same))))
         refl (hit_other m n k a e) known
 

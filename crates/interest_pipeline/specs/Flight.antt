@@ -17,8 +17,8 @@ pub record FlightState : Type 0 where
   pub last : Option ℕ
 
 -- before any segment has been asked for
-abbrev pub grounded : ℕ → FlightState
-grounded limit = record { limit = limit; base = 0; places = []; last = None }
+abbrev pub nothing_sent : ℕ → FlightState
+nothing_sent limit = record { limit = limit; base = 0; places = []; last = None }
 
 abbrev pub in_flight_of : FlightState → ℕ
 in_flight_of f = count_by is_in_flight f.places
@@ -62,14 +62,14 @@ put places index place =
     if nat_lt index (length places) then slice_set places index place else places ++ place ∷ []
 
 -- without the answered segments at the front
-abbrev pub settled : FlightState → FlightState
-settled f =
+abbrev pub advanced : FlightState → FlightState
+advanced f =
     let count = prefix_len is_answered f.places in
     record f { base = f.base + count; places = drop count f.places }
 
 -- the segment with this number has been answered
 abbrev pub answered : FlightState → ℕ → FlightState
-answered f number = settled (with_places f (slice_set f.places (number - f.base) Answered))
+answered f number = advanced (with_places f (slice_set f.places (number - f.base) Answered))
 
 -- no segment in flight halves the window any more
 abbrev pub spared_all : FlightState → FlightState

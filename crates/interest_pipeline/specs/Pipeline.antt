@@ -9,9 +9,9 @@ use Rattle.interest_pipeline.specs.declared.fault.PipelineFault.{PipelineFault}
 use Rattle.interest_pipeline.specs.declared.fault.PipelineFault.TheVariants as fault
 use Rattle.interest_pipeline.specs.declared.window.TheConstants.{GREATEST_WINDOW}
 use Rattle.interest_pipeline.specs.Rtt.{Rtt, unmeasured, sampled, backed_off}
-use Rattle.interest_pipeline.specs.Window.{WindowState, opened, grown, halved}
+use Rattle.interest_pipeline.specs.Window.{WindowState, first_window, grown, halved}
 use Rattle.interest_pipeline.specs.Places.{expire, is_spent, slows, soonest}
-use Rattle.interest_pipeline.specs.Flight.{FlightState, answered, ended, grounded, in_flight_of, pick, place_of, put, spared_all, with_places}
+use Rattle.interest_pipeline.specs.Flight.{FlightState, answered, ended, nothing_sent, in_flight_of, pick, place_of, put, spared_all, with_places}
 
 -- a pipeline as plain data; moments are in microseconds
 pub record PipelineState : Type 0 where
@@ -28,8 +28,8 @@ abbrev pub start : ℕ → ℕ → PipelineState
 start limit retries = record {
   retries = retries;
   rtt = unmeasured;
-  window = opened limit;
-  flight = grounded limit;
+  window = first_window limit;
+  flight = nothing_sent limit;
   gave_up = None;
 }
 

@@ -1,5 +1,9 @@
 //! The segments that have been asked for.
 
+ghost use Rattle.std.specs.Prelude.{◌≡◌, map};
+ghost use Rattle.std.specs.List.{count_by};
+ghost use Rattle.interest_pipeline.specs.Places.{expire, is_in_flight, sooner, soonest, spare};
+
 use crate::place::{Place, Sending};
 use crate::window::GREATEST_WINDOW;
 use std::alloc::{AllocError, Global};
@@ -45,12 +49,12 @@ impl Flight {
     ghost use Rattle.std.specs.List.{list_any};
     ghost use Rattle.interest_pipeline.specs.declared.place.Place.TheVariants.{InFlight, Lost};
     ghost use Rattle.interest_pipeline.specs.Places.{expire, is_lost, is_spent, slows, soonest};
-    ghost use Rattle.interest_pipeline.specs.Flight.{IsEnded, IsPlace, answered, ended, grounded, has_new, in_flight_of, pick, place_of, put, settled, spared_all, with_places};
+    ghost use Rattle.interest_pipeline.specs.Flight.{IsEnded, IsPlace, answered, ended, nothing_sent, has_new, in_flight_of, pick, place_of, put, advanced, spared_all, with_places};
 
     /// Returns the flight before any segment has been asked for.
     pub fn new(alloc: Global, limit: usize) -> Result<Flight, AllocError>
         requires { limit ≤ GREATEST_WINDOW }
-        ensures { IfOk result (λ f. f ≡ grounded limit) }
+        ensures { IfOk result (λ f. f ≡ nothing_sent limit) }
     {
         let places = VecDeque::with_capacity(alloc, limit)?;
         Ok(Flight {
@@ -161,12 +165,12 @@ impl Flight {
         ensures { self.new ≡ answered self.old number }
     {
         self.set(self.index_of(number), Place::Answered);
-        self.settle();
+        self.advance();
     }
 
     /// Removes the answered segments at the front.
-    fn settle(&mut self)
-        ensures { self.new ≡ settled self.old }
+    fn advance(&mut self)
+        ensures { self.new ≡ advanced self.old }
     {
         while let Some(Place::Answered) = self.places.front() {
             self.places.pop_front();
@@ -244,10 +248,6 @@ impl Flight {
         }
     }
 }
-
-ghost use Rattle.std.specs.Prelude.{◌≡◌, map};
-ghost use Rattle.std.specs.List.{count_by};
-ghost use Rattle.interest_pipeline.specs.Places.{expire, is_in_flight, sooner, soonest, spare};
 
 /// Returns how many of the segments are in flight.
 fn count_in_flight(places: &VecDeque<Place>) -> usize

@@ -1,5 +1,8 @@
 //! The estimate of the round-trip time, and the retransmission timeout (RFC 6298).
 
+ghost use Rattle.std.specs.Prelude.{◌≡◌, ◌≤◌, ◌*◌, Some};
+ghost use Rattle.interest_pipeline.specs.Rtt.{IsSmooth, IsWithin, first, later, rto_of};
+
 use std::marker::Model;
 
 /// The retransmission timeout before the first sample, in microseconds (RFC 6298, section 2, rule
@@ -87,9 +90,6 @@ impl RttEstimator {
         self.rto
     }
 }
-
-ghost use Rattle.std.specs.Prelude.{◌≡◌, ◌≤◌, ◌*◌, Some};
-ghost use Rattle.interest_pipeline.specs.Rtt.{IsSmooth, IsWithin, first, later, rto_of};
 
 /// Returns the estimate after the first sample.
 fn first(time: u64) -> Smoothed

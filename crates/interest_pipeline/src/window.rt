@@ -36,12 +36,12 @@ impl Model for Window {
 
 impl Window {
     ghost use Rattle.std.specs.Prelude.{◌≡◌, ◌≤◌};
-    ghost use Rattle.interest_pipeline.specs.Window.{counting, grown, half_of, halved, opened};
+    ghost use Rattle.interest_pipeline.specs.Window.{counting, grown, half_of, halved, first_window};
 
     /// Returns the first window: slow start from two segments, or one, if the greatest window is one.
     pub fn new(limit: usize) -> Window
         requires { limit ≤ GREATEST_WINDOW }
-        ensures { result ≡ opened limit }
+        ensures { result ≡ first_window limit }
     {
         Window {
             limit,

@@ -3,6 +3,7 @@
 use crate::rows::check_rows;
 use interest_pipeline::{GREATEST_WINDOW, Pipeline, PipelineFault, RttEstimator};
 use std::alloc::Global;
+use std::collections::VecDeque;
 
 /// Each row has round-trip times in microseconds, and the retransmission timeouts that follow from
 /// them by RFC 6298, section 2, within 200 ms and 60 s. An `x` is a timeout.
@@ -125,6 +126,62 @@ fn state(pipeline: &Pipeline, kind: &str) -> Option<u64> {
     }
 }
 
+/// Fetches the segments 0 to `last` over a link that answers after 20 ms, and that loses each Interest
+/// whose number is divisible by `gap`. Returns how many Interests were sent, or `None` if a segment
+/// was given up.
+fn fetch(alloc: Global, last: u64, gap: u64) -> Option<u64> {
+    let mut pipeline = Pipeline::new(alloc, 16, 3).ok()?;
+    pipeline.set_last(last);
+    let mut answers = VecDeque::new(alloc);
+    let mut now: u64 = 0;
+    let mut count: u64 = 0;
+    for _ in 0..100_000 {
+        if let Some(segment) = pipeline.next(now) {
+            count = count.saturating_add(1);
+            if count.checked_rem(gap) != Some(0) {
+                answers
+                    .push_back((now.saturating_add(20_000), segment))
+                    .ok()?;
+            }
+        } else if let Some((moment, segment)) = answers.pop_front() {
+            now = moment;
+            pipeline.answered(segment, now);
+            pipeline.expire(now);
+        } else if pipeline.is_done() {
+            return Some(count);
+        } else {
+            now = pipeline.deadline()?;
+            pipeline.expire(now);
+        }
+    }
+    None
+}
+
+/// Each row has the number of the last segment and the gap between lost Interests, and how many
+/// Interests were sent: the least number such that, without the lost ones, there is one for each
+/// segment. A gap of 0 loses none.
+const FETCHES: &str = "
+0 0 -> 1
+9 0 -> 10
+99 0 -> 100
+1 2 -> 3
+9 3 -> 14
+99 10 -> 111
+999 7 -> 1166
+# All are lost: the first segment is given up.
+9 1 -> -
+";
+
+fn fetched(alloc: Global, words: &str) -> Option<String> {
+    let (last, gap) = words.split_once(' ')?;
+    let mut text = String::new(alloc);
+    put_number(
+        &mut text,
+        fetch(alloc, last.parse().ok()?, gap.parse().ok()?),
+    )?;
+    Some(text)
+}
+
 fn refused(alloc: Global, limit: usize) -> bool {
     match Pipeline::new(alloc, limit, 3) {
         Err(fault) => fault == PipelineFault::BadWindow,
@@ -140,6 +197,11 @@ fn timeouts_from_round_trips(rt: HostRuntime) {
 #[test]
 fn pipelines_at_calls(rt: HostRuntime) {
     check_rows(&rt, rt.alloc(), CALLS, shown);
+}
+
+#[test]
+fn fetches_over_a_link(rt: HostRuntime) {
+    check_rows(&rt, rt.alloc(), FETCHES, fetched);
 }
 
 #[test]

@@ -1,6 +1,6 @@
 use Rattle.std.proofs.Common.{◌<◌, length, refl, arith, sym, ◌∙◌}
-use Rattle.interest_pipeline.proofs.Settling.{shorter}
-use Rattle.interest_pipeline.proofs.flight.Flight.settle.Goals as goal
+use Rattle.interest_pipeline.proofs.Advancing.{shorter}
+use Rattle.interest_pipeline.proofs.flight.Flight.advance.Goals as goal
 
 pub loop-self-preserved : goal.loop-self-preserved
 loop-self-preserved c =

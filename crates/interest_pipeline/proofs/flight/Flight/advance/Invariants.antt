@@ -2,7 +2,7 @@ use Rattle.std.proofs.Common.{◌≡◌, ◌≤◌, ◌+◌, drop, length}
 use Rattle.std.specs.List.{count_by, prefix_len}
 use Rattle.std.specs.VecDeque.{deque_capacity}
 use Rattle.interest_pipeline.specs.Places.{is_answered, is_in_flight}
-use Rattle.interest_pipeline.proofs.flight.Flight.settle.Given as goal
+use Rattle.interest_pipeline.proofs.flight.Flight.advance.Given as goal
 
 abbrev pub invariant-loop-self : goal.invariant-loop-self
 invariant-loop-self l =
