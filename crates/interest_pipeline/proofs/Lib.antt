@@ -9,3 +9,5 @@ pub mod Sound
 pub mod Counting
 pub mod Halving
 pub mod GivingUp
+pub mod NoneLost
+pub mod Expiring

@@ -43,14 +43,14 @@ has_new f =
     nat_lt (length f.places) f.limit && nat_lt (next_new f) (2 ^ 64 - 1)
     && is_wanted f.last (next_new f)
 
--- the place of the segment to send, counted from `base`: the first lost one, or else a new one
+-- the index of the segment to send, counted from `base`: the first lost one, or else a new one
 abbrev pub pick : FlightState → Option ℕ
 pick f =
     option_or (position is_lost f.places) (if has_new f then Some (length f.places) else None)
 
--- what is true of the place of a segment to send: there is room for a new one
-abbrev pub IsPlace : FlightState → ℕ → Type 0
-IsPlace f index =
+-- the index is that of a segment that has been asked for, or of a new one that may be asked for
+abbrev pub IsIndex : FlightState → ℕ → Type 0
+IsIndex f index =
     (index ≤ length f.places) × (index ≡ length f.places → has_new f ≡ true)
 
 abbrev pub with_places : FlightState → List Place → FlightState

@@ -40,7 +40,7 @@ IsRefused limit fault.Memory = (1 ≤ limit) × (limit ≤ GREATEST_WINDOW)
 
 -- ---- sending
 
--- the place of the segment to send, counted from the least unanswered one
+-- the index of the segment to send, counted from the least unanswered one
 abbrev pub choice : PipelineState → Option ℕ
 choice s =
     if is_some s.gave_up || nat_le s.window.cwnd (in_flight_of s.flight) then None
@@ -50,7 +50,7 @@ choice s =
 abbrev pub number_to_send : PipelineState → Option ℕ
 number_to_send s = option_map (λ index. s.flight.base + index) (choice s)
 
--- how many sendings of a segment are left after it has been sent at this place
+-- how often a segment may still be sent after it has been sent, given what was known of it before
 abbrev pub left_after : Option Place → ℕ → ℕ
 left_after (Some (Lost x)) retries = x.left - 1
 left_after place retries = retries

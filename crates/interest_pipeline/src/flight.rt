@@ -2,7 +2,7 @@
 
 ghost use Rattle.std.specs.Prelude.{◌≡◌, map};
 ghost use Rattle.std.specs.List.{count_by};
-ghost use Rattle.interest_pipeline.specs.Places.{expire, is_in_flight, sooner, soonest, spare};
+ghost use Rattle.interest_pipeline.specs.Places.{expire, is_in_flight, is_lost, sooner, soonest, spare};
 
 use crate::place::{Place, Sending};
 use crate::window::GREATEST_WINDOW;
@@ -18,6 +18,7 @@ pub(crate) struct Flight {
     base: u64,
     places: VecDeque<Place>,
     in_flight: usize,
+    lost: usize,
     last: Option<u64>,
 }
 
@@ -30,7 +31,7 @@ impl Model for Flight {
     ghost use Rattle.std.specs.List.{count_by};
     ghost use Rattle.interest_pipeline.specs.declared.window.TheConstants.{GREATEST_WINDOW};
     ghost use Rattle.std.specs.VecDeque.{deque_capacity};
-    ghost use Rattle.interest_pipeline.specs.Places.{is_in_flight};
+    ghost use Rattle.interest_pipeline.specs.Places.{is_in_flight, is_lost};
 
     ghost view = { λ f. record {
       limit = f.limit;
@@ -41,7 +42,8 @@ impl Model for Flight {
 
     ghost invariant = { λ f. (f.limit ≤ GREATEST_WINDOW) × (f.limit ≤ deque_capacity f.places)
         × (length f.places.items ≤ f.limit) × (f.base + length f.places.items < 2 ^ 64)
-        × (f.in_flight ≡ count_by is_in_flight f.places.items) };
+        × (f.in_flight ≡ count_by is_in_flight f.places.items)
+        × (f.lost ≡ count_by is_lost f.places.items) };
 }
 
 impl Flight {
@@ -49,7 +51,7 @@ impl Flight {
     ghost use Rattle.std.specs.List.{list_any};
     ghost use Rattle.interest_pipeline.specs.declared.place.Place.TheVariants.{InFlight, Lost};
     ghost use Rattle.interest_pipeline.specs.Places.{expire, is_lost, is_spent, slows, soonest};
-    ghost use Rattle.interest_pipeline.specs.Flight.{IsEnded, IsPlace, answered, ended, nothing_sent, has_new, in_flight_of, pick, place_of, put, advanced, spared_all, with_places};
+    ghost use Rattle.interest_pipeline.specs.Flight.{IsEnded, IsIndex, answered, ended, nothing_sent, has_new, in_flight_of, pick, place_of, put, advanced, spared_all, with_places};
 
     /// Returns the flight before any segment has been asked for.
     pub fn new(alloc: Global, limit: usize) -> Result<Flight, AllocError>
@@ -62,6 +64,7 @@ impl Flight {
             base: 0,
             places,
             in_flight: 0,
+            lost: 0,
             last: None,
         })
     }
@@ -73,7 +76,7 @@ impl Flight {
         self.in_flight
     }
 
-    /// Returns the number of the segment at a place.
+    /// Returns the number of the segment at an index, counted from the least unanswered one.
     pub fn number(&self, index: usize) -> u64
         requires { index ≤ length self.now.places }
         ensures { result ≡ self.now.base + index }
@@ -81,10 +84,10 @@ impl Flight {
         self.base + index as u64
     }
 
-    /// Returns the place of the segment to send.
+    /// Returns the index of the segment to send: the first lost one, or else a new one.
     pub fn pick(&self) -> Option<usize>
         ensures exact { result ≡ pick self.now }
-        ensures place { IfSome result (λ index. IsPlace self.now index) }
+        ensures index { IfSome result (λ index. IsIndex self.now index) }
     {
         match self.first_lost() {
             Some(index) => Some(index),
@@ -93,11 +96,14 @@ impl Flight {
         }
     }
 
-    /// Returns the place of the first lost segment.
+    /// Returns the index of the first lost segment.
     fn first_lost(&self) -> Option<usize>
         ensures exact { result ≡ position is_lost self.now.places }
         ensures within { IfSome result (λ index. index < length self.now.places) }
     {
+        if self.lost == 0 {
+            return None;
+        }
         self.places.iter().position(|place| place.is_lost())
     }
 
@@ -111,7 +117,7 @@ impl Flight {
             && self.last.is_none_or(|last| next <= last)
     }
 
-    /// Returns what is known of the segment at a place.
+    /// Returns what is known of the segment at an index.
     pub fn at(&self, index: usize) -> Option<Place>
         ensures { result ≡ slice_get self.now.places index }
     {
@@ -128,16 +134,16 @@ impl Flight {
         self.at(self.index_of(number))
     }
 
-    /// Returns the place of the segment with a number.
+    /// Returns the index of the segment with a number.
     fn index_of(&self, number: u64) -> usize
         ensures { result ≡ number - self.now.base }
     {
         number.saturating_sub(self.base) as usize
     }
 
-    /// Puts the segment at a place in flight.
+    /// Puts the segment at an index in flight.
     pub fn send(&mut self, index: usize, sending: Sending)
-        requires { IsPlace self.old index }
+        requires { IsIndex self.old index }
         ensures { self.new ≡ with_places self.old (put self.old.places index (InFlight sending)) }
     {
         if index < self.places.len() {
@@ -148,15 +154,17 @@ impl Flight {
         }
     }
 
-    /// Sets what is known of the segment at a place. Past the last place, nothing changes.
+    /// Sets what is known of the segment at an index. Past the last one, nothing changes.
     fn set(&mut self, index: usize, place: Place)
         ensures { self.new ≡ with_places self.old (slice_set self.old.places index place) }
     {
         if index < self.places.len() {
-            let was_in_flight = self.places[index].is_in_flight();
+            let before = self.places[index];
             self.places[index] = place;
-            self.in_flight -= usize::from(was_in_flight);
+            self.in_flight -= usize::from(before.is_in_flight());
             self.in_flight += usize::from(place.is_in_flight());
+            self.lost -= usize::from(before.is_lost());
+            self.lost += usize::from(place.is_lost());
         }
     }
 
@@ -192,6 +200,7 @@ impl Flight {
     {
         expire_all(self.places.make_contiguous(), now);
         self.in_flight = count_in_flight(&self.places);
+        self.lost = count_lost(&self.places);
     }
 
     /// Takes care that no segment in flight halves the window.
@@ -200,6 +209,7 @@ impl Flight {
     {
         spare_all(self.places.make_contiguous());
         self.in_flight = count_in_flight(&self.places);
+        self.lost = count_lost(&self.places);
     }
 
     /// Returns whether a segment whose time is out halves the window.
@@ -209,7 +219,7 @@ impl Flight {
         self.places.iter().any(|place| place.slows(now))
     }
 
-    /// Returns the place of the first segment whose time is out and that may not be sent again.
+    /// Returns the index of the first segment whose time is out and that may not be sent again.
     pub fn spent(&self, now: u64) -> Option<usize>
         ensures exact { result ≡ position (is_spent now) self.now.places }
         ensures within { IfSome result (λ index. index < length self.now.places) }
@@ -236,6 +246,7 @@ impl Flight {
         let count = last.saturating_add(1).saturating_sub(self.base);
         self.places.truncate(count as usize);
         self.in_flight = count_in_flight(&self.places);
+        self.lost = count_lost(&self.places);
     }
 
     /// Returns whether all segments have been answered.
@@ -254,6 +265,13 @@ fn count_in_flight(places: &VecDeque<Place>) -> usize
     ensures { result ≡ count_by is_in_flight places.now.items }
 {
     places.iter().filter(|place| place.is_in_flight()).count()
+}
+
+/// Returns how many of the segments are lost.
+fn count_lost(places: &VecDeque<Place>) -> usize
+    ensures { result ≡ count_by is_lost places.now.items }
+{
+    places.iter().filter(|place| place.is_lost()).count()
 }
 
 /// Marks the segments whose time is out as lost.

@@ -6,7 +6,7 @@ ghost use Rattle.interest_pipeline.specs.declared.rtt.Smoothed.{Smoothed};
 ghost use Rattle.interest_pipeline.specs.Rtt.{IsWithin, later};
 ghost use Rattle.interest_pipeline.specs.Window.{halved};
 ghost use Rattle.interest_pipeline.specs.Flight.{IsEnded, in_flight_of, is_wanted};
-ghost use Rattle.interest_pipeline.specs.Pipeline.{PipelineState, after_next, deadline_of, number_to_send, start};
+ghost use Rattle.interest_pipeline.specs.Pipeline.{PipelineState, after_expire, after_next, deadline_of, number_to_send, start};
 ghost use Rattle.interest_pipeline.specs.Runs.{Answer, Call, IsInFlight, IsLost, after, halves, sendings_of, state_after, was_answered};
 
 /// Law: after any calls, the window is at most the greatest window, and at least two segments, or
@@ -40,8 +40,9 @@ pub fn no_segment_is_sent_too_often()
 
 /// Law: after any calls, a segment that was sent, and is not above the last one, has been answered,
 /// or is in flight, or waits to be sent again. A pipeline that is not done and has not given up has
-/// a segment to send, or a deadline. In a pipeline that is done, each segment up to the last one has
-/// been answered.
+/// a segment to send, or a deadline, unless 2^64 - 1 segments have been answered. At the deadline,
+/// `expire` loses a segment in flight. In a pipeline that is done, each segment up to the last one
+/// has been answered.
 pub fn no_segment_is_forgotten()
     ensures kept { (limit retries number : ℕ) (calls : List Call)
         → let s = state_after (start limit retries) calls in
@@ -53,6 +54,8 @@ pub fn no_segment_is_forgotten()
         → let s = state_after (start limit retries) calls in
         s.flight.base < 2 ^ 64 - 1 → (IsEnded s.flight → ⊥) → s.gave_up ≡ None
         → (is_some (number_to_send s) || is_some (deadline_of s)) ≡ true }
+    ensures expires { (s : PipelineState) (moment : ℕ) → deadline_of s ≡ Some moment
+        → in_flight_of (after_expire s moment).flight < in_flight_of s.flight }
     ensures done { (limit retries last number : ℕ) (calls : List Call)
         → let s = state_after (start limit retries) calls in
         s.flight.last ≡ Some last → last < s.flight.base → number ≤ last

@@ -40,7 +40,7 @@ impl Model for Pipeline {
 impl Pipeline {
     ghost use Rattle.std.specs.Prelude.{◌≡◌, ◌↔◌, IfSome, MatchResult, IsTrue, Some};
     ghost use Rattle.std.specs.Option.{option_or};
-    ghost use Rattle.interest_pipeline.specs.Flight.{IsEnded, IsPlace, in_flight_of};
+    ghost use Rattle.interest_pipeline.specs.Flight.{IsEnded, IsIndex, in_flight_of};
     ghost use Rattle.interest_pipeline.specs.Pipeline.{IsRefused, after_answer, after_expire, after_last, after_loss, after_next, choice, deadline_of, number_to_send, sending_at, slowed, start, with_answer, with_expired, with_loss};
 
     /// Returns a pipeline that has sent nothing. `limit` is the greatest window, in segments, and
@@ -81,10 +81,10 @@ impl Pipeline {
         Some(number)
     }
 
-    /// Returns the place of the segment to send.
+    /// Returns the index of the segment to send, counted from the least unanswered one.
     fn choice(&self) -> Option<usize>
         ensures exact { result ≡ choice self.now }
-        ensures place { IfSome result (λ index. IsPlace self.now.flight index) }
+        ensures index { IfSome result (λ index. IsIndex self.now.flight index) }
     {
         if self.gave_up.is_some() || self.window.cwnd() <= self.flight.in_flight() {
             return None;
@@ -92,7 +92,7 @@ impl Pipeline {
         self.flight.pick()
     }
 
-    /// Returns the sending of the segment at a place.
+    /// Returns the sending of the segment at an index.
     fn sending_at(&self, now: u64, index: usize) -> Sending
         ensures { result ≡ sending_at self.now now index }
     {

@@ -1,5 +1,6 @@
 use Rattle.std.proofs.Common.{arith}
 use Rattle.interest_pipeline.proofs.Counting.{progress}
+use Rattle.interest_pipeline.proofs.Expiring.{expires}
 use Rattle.interest_pipeline.proofs.Runs.{done_answered, kept}
 use Rattle.interest_pipeline.proofs.law.no_segment_is_forgotten.Goals as goal
 
@@ -11,3 +12,6 @@ returns-clause-progress c = progress
 
 pub returns-clause-done : goal.returns-clause-done
 returns-clause-done c limit retries last n calls is ended below = done_answered limit retries n calls (omega arith)
+
+pub returns-clause-expires : goal.returns-clause-expires
+returns-clause-expires c = expires

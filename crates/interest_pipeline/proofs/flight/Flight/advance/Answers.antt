@@ -14,7 +14,9 @@ loop-self-preserved c =
       shorter = omega (arith, s.length);
       end = omega (arith, s.length);
       in_flight = i.in_flight;
-      counted = sym s.counted ∙ i.counted;
+      counted = sym s.in_flight ∙ i.counted;
+      lost = i.lost;
+      counted_lost = sym s.lost ∙ i.counted_lost;
       base = omega (arith, s.front);
       places = sym s.kept ∙ i.places;
     }
