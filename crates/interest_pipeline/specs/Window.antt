@@ -15,7 +15,12 @@ pub record WindowState : Type 0 where
 
 -- the first window: slow start from two segments, with a threshold that is as high as possible
 abbrev pub first_window : ℕ → WindowState
-first_window limit = record { limit = limit; cwnd = min LEAST_WINDOW limit; ssthresh = limit; counted = 0 }
+first_window limit = record {
+  limit = limit;
+  cwnd = min LEAST_WINDOW limit;
+  ssthresh = limit;
+  counted = 0;
+}
 
 -- after an answer in congestion avoidance: one more for a whole window of answers
 abbrev pub counting : WindowState → WindowState

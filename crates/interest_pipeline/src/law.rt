@@ -10,8 +10,8 @@ ghost use Rattle.interest_pipeline.specs.Pipeline.{PipelineState, after_expire, 
 ghost use Rattle.interest_pipeline.specs.Runs.{Answer, Call, IsInFlight, IsLost, after, halves, sendings_of, state_after, was_answered};
 
 /// Law: after any calls, the window is at most the greatest window, and at least two segments, or
-/// one, if the greatest window is one. A segment is sent only if then no more segments are in flight
-/// than the window has. There are never more in flight than the greatest window.
+/// one, if the greatest window is one. A segment is sent only if then no more segments are in
+/// flight than the window has. There are never more in flight than the greatest window.
 pub fn the_window_limits_what_is_sent()
     ensures window { (limit retries : ℕ) (calls : List Call) → 1 ≤ limit
         → let s = state_after (start limit retries) calls in
@@ -92,8 +92,8 @@ pub fn the_timeout_is_within_its_limits()
         → IsWithin (state_after (start limit retries) calls).rtt.rto }
 {}
 
-/// Law: an estimate after a sample is that of RFC 6298, section 2, rule 2.3, rounded up to a part of
-/// a microsecond: an eighth for SRTT, a quarter for RTTVAR.
+/// Law: an estimate after a sample is that of RFC 6298, section 2, rule 2.3, rounded up to a part
+/// of a microsecond: an eighth for SRTT, a quarter for RTTVAR.
 pub fn estimates_are_rounded_to_parts_of_a_microsecond()
     ensures srtt { (s : Smoothed) (r : ℕ) → let exact = 7 * s.srtt8 + 8 * r in
         (exact ≤ 8 * (later s r).srtt8) × (8 * (later s r).srtt8 < exact + 8) }

@@ -1,5 +1,6 @@
-//! The pipeline of a client that fetches the segments of a file: which Interest to send at a moment,
-//! how many may be in flight, and when an unanswered one is sent again (RFC 5681 and RFC 6298).
+//! The pipeline of a client that fetches the segments of a file: which Interest to send at a
+//! moment, how many may be in flight, and when an unanswered one is sent again (RFC 5681 and RFC
+//! 6298).
 #![tactic(auto)]
 
 mod fault;

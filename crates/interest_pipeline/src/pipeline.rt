@@ -12,8 +12,8 @@ use std::marker::Model;
 /// unanswered Interest is sent again.
 ///
 /// Moments are in microseconds, of a clock that never goes back. If it goes back, the time of an
-/// answer from a later moment counts as 0, and timeouts come later or sooner than they should. After
-/// the pipeline has been made, it takes no memory.
+/// answer from a later moment counts as 0, and timeouts come later or sooner than they should.
+/// After the pipeline has been made, it takes no memory.
 #[derive(Drop)]
 pub struct Pipeline {
     retries: u32,
@@ -109,8 +109,8 @@ impl Pipeline {
     }
 
     /// Takes an answer to the segment with a number, which came at this moment. A segment that has
-    /// not been asked for, or has been answered, changes nothing. An answer to a lost segment counts
-    /// like one that came in time.
+    /// not been asked for, or has been answered, changes nothing. An answer to a lost segment
+    /// counts like one that came in time.
     pub fn answered(&mut self, number: u64, now: u64)
         ensures { self.new ≡ after_answer self.old number now }
     {
@@ -132,8 +132,8 @@ impl Pipeline {
         self.flight.answer(number);
     }
 
-    /// Takes a loss of the segment with a number, without a timeout: a Nack for Congestion (NDNLPv2).
-    /// A segment that is not in flight changes nothing.
+    /// Takes a loss of the segment with a number, without a timeout: a Nack for Congestion
+    /// (NDNLPv2). A segment that is not in flight changes nothing.
     pub fn lost(&mut self, number: u64)
         ensures { self.new ≡ after_loss self.old number }
     {
@@ -157,7 +157,8 @@ impl Pipeline {
 
     /// Gives up a segment, unless one was given up before.
     fn give_up(&mut self, number: u64)
-        ensures { self.new ≡ record self.old { gave_up = option_or self.old.gave_up (Some number) } }
+        ensures { self.new
+            ≡ record self.old { gave_up = option_or self.old.gave_up (Some number) } }
     {
         if self.gave_up.is_none() {
             self.gave_up = Some(number);
@@ -196,8 +197,8 @@ impl Pipeline {
         self.flight.expire(now);
     }
 
-    /// Returns the moment at which `expire` is to be called, or `None` if no segment is in flight or
-    /// a segment was given up.
+    /// Returns the moment at which `expire` is to be called, or `None` if no segment is in flight
+    /// or a segment was given up.
     pub fn deadline(&self) -> Option<u64>
         ensures { result ≡ deadline_of self.now }
     {
@@ -222,8 +223,8 @@ impl Pipeline {
         self.flight.is_done()
     }
 
-    /// Returns the segment that was lost after its last sending, the first such segment if there are
-    /// several.
+    /// Returns the segment that was lost after its last sending, the first such segment if there
+    /// are several.
     pub fn gave_up(&self) -> Option<u64>
         ensures { result ≡ self.now.gave_up }
     {

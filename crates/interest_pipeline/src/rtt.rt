@@ -9,8 +9,8 @@ use std::marker::Model;
 /// 2.1).
 pub const FIRST_RTO: u64 = 1_000_000;
 
-/// The least retransmission timeout, in microseconds. RFC 6298, section 2, rule 2.4, has one second,
-/// for networks with coarse clocks.
+/// The least retransmission timeout, in microseconds. RFC 6298, section 2, rule 2.4, recommends one
+/// second; `ndncatchunks` has this value.
 pub const LEAST_RTO: u64 = 200_000;
 
 /// The greatest retransmission timeout, in microseconds (RFC 6298, section 2, rule 2.5).
@@ -28,8 +28,9 @@ pub struct Smoothed {
     pub rttvar4: u64,
 }
 
-/// The estimate of the round-trip time, and the retransmission timeout (RFC 6298, sections 2 and 5).
-/// All times are in microseconds. SRTT is kept in eighths and RTTVAR in quarters of a microsecond.
+/// The estimate of the round-trip time, and the retransmission timeout (RFC 6298, sections 2 and
+/// 5). All times are in microseconds. SRTT is kept in eighths and RTTVAR in quarters of a
+/// microsecond.
 #[derive(Drop)]
 pub struct RttEstimator {
     smoothed: Option<Smoothed>,
@@ -61,8 +62,8 @@ impl RttEstimator {
     }
 
     /// Takes a sample: the time from the sending of a segment that was sent once to its answer, in
-    /// microseconds. The timeout then follows from the estimate. A sample above `GREATEST_RTO` counts
-    /// as `GREATEST_RTO`.
+    /// microseconds. The timeout then follows from the estimate. A sample above `GREATEST_RTO`
+    /// counts as `GREATEST_RTO`.
     pub fn sample(&mut self, time: u64)
         ensures { self.new ≡ sampled self.old time }
     {

@@ -31,14 +31,16 @@ impl Model for Window {
       counted = w.counted;
     } };
 
-    ghost invariant = { λ w. (w.limit ≤ GREATEST_WINDOW) × (w.counted ≤ w.limit) × (w.cwnd ≤ w.limit) × (w.ssthresh ≤ w.limit) };
+    ghost invariant = { λ w. (w.limit ≤ GREATEST_WINDOW) × (w.counted ≤ w.limit)
+        × (w.cwnd ≤ w.limit) × (w.ssthresh ≤ w.limit) };
 }
 
 impl Window {
     ghost use Rattle.std.specs.Prelude.{◌≡◌, ◌≤◌};
     ghost use Rattle.interest_pipeline.specs.Window.{counting, grown, half_of, halved, first_window};
 
-    /// Returns the first window: slow start from two segments, or one, if the greatest window is one.
+    /// Returns the first window: slow start from two segments, or one, if the greatest window is
+    /// one.
     pub fn new(limit: usize) -> Window
         requires { limit ≤ GREATEST_WINDOW }
         ensures { result ≡ first_window limit }

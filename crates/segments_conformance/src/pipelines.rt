@@ -126,9 +126,9 @@ fn state(pipeline: &Pipeline, kind: &str) -> Option<u64> {
     }
 }
 
-/// Fetches the segments 0 to `last` over a link that answers after 20 ms, and that loses each Interest
-/// whose number is divisible by `gap`. Returns how many Interests were sent, or `None` if a segment
-/// was given up.
+/// Fetches the segments 0 to `last` over a link that answers after 20 ms, and that loses each
+/// Interest whose number is divisible by `gap`. Returns how many Interests were sent, or `None` if
+/// a segment was given up.
 fn fetch(alloc: Global, last: u64, gap: u64) -> Option<u64> {
     let mut pipeline = Pipeline::new(alloc, 16, 3).ok()?;
     pipeline.set_last(last);
