@@ -8,7 +8,7 @@ use Rattle.std.proofs.lemmas.List.Sums.{count_by-le-length, sum_by-cons, sum_by-
 use Rattle.interest_pipeline.specs.declared.place.Place.{Place}
 use Rattle.interest_pipeline.specs.declared.place.Place.TheVariants.{Answered, InFlight, Lost}
 use Rattle.interest_pipeline.specs.Places.{deadline_of, is_answered, is_in_flight, is_lost, sooner, soonest}
-use Rattle.interest_pipeline.specs.Flight.{FlightState, IsEnded, has_new, in_flight_of, is_wanted, next_new, pick, put}
+use Rattle.interest_pipeline.specs.Flight.{FlightState, IsEnded, given_up, has_new, in_flight_of, is_wanted, next_new, pick, put}
 use Rattle.interest_pipeline.specs.Pipeline.{PipelineState, choice, deadline_of as wake_of, number_to_send, sending_at, sent, start}
 use Rattle.interest_pipeline.specs.Runs.{Call, state_after}
 use Rattle.interest_pipeline.proofs.Picking.{chosen, found, picked}
@@ -108,7 +108,7 @@ picks f front none some small going = by (position is_lost f.places) refl
     by (Some i) e = refl
     by None e = rw (first_new f (lost_or_none f.places front none e) some small going) refl
 
-chooses : (s : PipelineState) → s.gave_up ≡ None → 1 ≤ s.window.cwnd → count_by is_in_flight s.flight.places ≡ 0 → is_some (pick s.flight) ≡ true
+chooses : (s : PipelineState) → given_up s.flight ≡ None → 1 ≤ s.window.cwnd → count_by is_in_flight s.flight.places ≡ 0 → is_some (pick s.flight) ≡ true
     → is_some (number_to_send s) ≡ true
 chooses s stays some none pick_some = rw (stays, room) (by (pick s.flight) pick_some)
   where
@@ -119,12 +119,12 @@ chooses s stays some none pick_some = rw (stays, room) (by (pick s.flight) pick_
     by None e = absurd cc
     by (Some i) e = refl
 
-wakes : (s : PipelineState) (d : ℕ) → s.gave_up ≡ None → soonest s.flight.places ≡ Some d → is_some (wake_of s) ≡ true
+wakes : (s : PipelineState) (d : ℕ) → given_up s.flight ≡ None → soonest s.flight.places ≡ Some d → is_some (wake_of s) ≡ true
 wakes s d stays e = rw (stays, e) refl
 
 pub progress : (limit retries : ℕ) (calls : List Call) → 1 ≤ limit
     → let s = state_after (start limit retries) calls in
-    s.flight.base < 2 ^ 64 - 1 → (IsEnded s.flight → ⊥) → s.gave_up ≡ None
+    s.flight.base < 2 ^ 64 - 1 → (IsEnded s.flight → ⊥) → given_up s.flight ≡ None
     → (is_some (number_to_send s) || is_some (wake_of s)) ≡ true
 progress limit retries calls some small going stays =
     by (soonest (state_after (start limit retries) calls).flight.places) refl

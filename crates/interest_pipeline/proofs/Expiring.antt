@@ -8,7 +8,7 @@ use Rattle.interest_pipeline.specs.declared.place.Place.{Place}
 use Rattle.interest_pipeline.specs.declared.place.Place.TheVariants.{Answered, InFlight, Lost}
 use Rattle.interest_pipeline.specs.Rtt.{backed_off}
 use Rattle.interest_pipeline.specs.Places.{deadline_of, expire, is_in_flight, slows, sooner, soonest, spare}
-use Rattle.interest_pipeline.specs.Flight.{in_flight_of}
+use Rattle.interest_pipeline.specs.Flight.{given_up, in_flight_of}
 use Rattle.interest_pipeline.specs.Pipeline.{PipelineState, after_expire, deadline_of as wake_of, slowed, with_expired}
 
 -- one, if the place is in flight
@@ -82,7 +82,7 @@ none_if false o d e = e
 
 pub expires : (s : PipelineState) (d : ℕ) → wake_of s ≡ Some d → in_flight_of (after_expire s d).flight < in_flight_of s.flight
 expires s d e =
-    by (list_any (slows d) s.flight.places) (fewer d s.flight.places (none_if (is_some s.gave_up) (soonest s.flight.places) d e))
+    by (list_any (slows d) s.flight.places) (fewer d s.flight.places (none_if (is_some (given_up s.flight)) (soonest s.flight.places) d e))
   where
     by : (b : Bool) → count_by is_in_flight (map (expire d) s.flight.places) < count_by is_in_flight s.flight.places
         → in_flight_of (if b then record (slowed (with_expired s d)) { rtt = backed_off s.rtt } else with_expired s d).flight < in_flight_of s.flight

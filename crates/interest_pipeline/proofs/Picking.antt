@@ -1,16 +1,16 @@
 -- Which place is picked.
 use Rattle.std.proofs.Common.{◌≡◌, ◌<◌, ◌+◌, ◌⊎◌, ℕ, suc, zero, Bool, true, false, cond, not, List, [], ◌∷◌, length, get_or, Some, None, refl, sym, ap, ◌∙◌, arith, inl, inr, if◌then◌else◌, ◌||◌}
-use Rattle.std.specs.Prelude.{Option, slice_get, position, is_some, nat_le}
+use Rattle.std.specs.Prelude.{Option, slice_get, position, is_some, nat_le, option_map}
 use Rattle.std.specs.List.{position_or_len}
 use Rattle.std.specs.Option.{option_or}
-use Rattle.std.proofs.lemmas.Bool.{lt-ltb}
+use Rattle.std.proofs.lemmas.Bool.{eq-eqb, lt-ltb}
 use Rattle.std.proofs.lemmas.Option.{cond_some, slice_get-get_or}
 use Rattle.std.proofs.lemmas.List.Quantifiers.{position-Some}
 use Rattle.interest_pipeline.specs.declared.place.Sending.{Sending}
 use Rattle.interest_pipeline.specs.declared.place.Place.{Place}
 use Rattle.interest_pipeline.specs.declared.place.Place.TheVariants.{Answered, InFlight, Lost}
-use Rattle.interest_pipeline.specs.Places.{is_lost}
-use Rattle.interest_pipeline.specs.Flight.{FlightState, has_new, in_flight_of, pick}
+use Rattle.interest_pipeline.specs.Places.{is_lost, is_spent}
+use Rattle.interest_pipeline.specs.Flight.{FlightState, given_up, has_new, in_flight_of, pick}
 use Rattle.interest_pipeline.specs.Pipeline.{PipelineState, choice}
 
 lost_is : (p : Place) → is_lost p ≡ true → (x : Sending) × (p ≡ Lost x)
@@ -41,7 +41,7 @@ picked f i e = by (position is_lost f.places) refl e
 
 -- what is true if a segment is sent
 pub record IsChosen (s : PipelineState) (i : ℕ) : Type 0 where
-  pub stays : is_some s.gave_up ≡ false
+  pub stays : is_some (given_up s.flight) ≡ false
   pub room : in_flight_of s.flight < s.window.cwnd
   pub pick : pick s.flight ≡ Some i
 
@@ -58,8 +58,8 @@ le_false a b e = grind arith
 
 pub chosen : (s : PipelineState) (i : ℕ) → choice s ≡ Some i → IsChosen s i
 chosen s i e =
-    let (none, is) = none_if (is_some s.gave_up || nat_le s.window.cwnd (in_flight_of s.flight)) (pick s.flight) i e in
-    let (stays, fits) = or_false (is_some s.gave_up) (nat_le s.window.cwnd (in_flight_of s.flight)) none in
+    let (none, is) = none_if (is_some (given_up s.flight) || nat_le s.window.cwnd (in_flight_of s.flight)) (pick s.flight) i e in
+    let (stays, fits) = or_false (is_some (given_up s.flight)) (nat_le s.window.cwnd (in_flight_of s.flight)) none in
     record { stays = stays; room = le_false s.window.cwnd (in_flight_of s.flight) fits; pick = is }
 
 -- a place that passes a test is found
@@ -78,3 +78,12 @@ found_below test (q ∷ places) (suc i) p at passes = by (test q) (found_below t
 pub found : (test : Place → Bool) (places : List Place) (i : ℕ) (p : Place) → slice_get places i ≡ Some p → test p ≡ true
     → is_some (position test places) ≡ true
 found test places i p at passes = rw (lt-ltb (position_or_len test places) (length places) (found_below test places i p at passes)) refl
+
+some_map : (base : ℕ) (o : Option ℕ) → is_some (option_map (λ index. base + index) o) ≡ is_some o
+some_map base None = refl
+some_map base (Some i) = refl
+
+-- a segment that may not be sent again is given up
+pub spent_gives_up : (f : FlightState) (i : ℕ) (x : Sending) → slice_get f.places i ≡ Some (Lost x) → x.left ≡ 0 → is_some (given_up f) ≡ true
+spent_gives_up f i x is none =
+    some_map f.base (position is_spent f.places) ∙ found is_spent f.places i (Lost x) is (eq-eqb x.left 0 none)

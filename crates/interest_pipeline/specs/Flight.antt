@@ -1,10 +1,10 @@
 -- The segments that have been asked for and those that may be asked for.
-use Rattle.std.specs.Prelude.{◌≡◌, ℕ, ◌+◌, ◌-◌, ◌^◌, ◌<◌, ◌≤◌, nat_lt, nat_le, ◌&&◌, Bool, true, List, [], ◌∷◌, ◌++◌, length, map, drop, take, slice_get, slice_set, position, Option, None, Some, if◌then◌else◌}
+use Rattle.std.specs.Prelude.{◌≡◌, ℕ, ◌+◌, ◌-◌, ◌^◌, ◌<◌, ◌≤◌, nat_lt, nat_le, ◌&&◌, Bool, true, List, [], ◌∷◌, ◌++◌, length, map, drop, take, slice_get, slice_set, position, Option, None, Some, option_map, if◌then◌else◌}
 use Rattle.std.specs.List.{count_by, prefix_len}
 use Rattle.std.specs.Option.{option_or}
 use Rattle.interest_pipeline.specs.declared.place.Place.{Place}
 use Rattle.interest_pipeline.specs.declared.place.Place.TheVariants.{Answered}
-use Rattle.interest_pipeline.specs.Places.{is_answered, is_in_flight, is_lost, spare}
+use Rattle.interest_pipeline.specs.Places.{is_answered, is_in_flight, is_lost, is_spent, spare}
 
 pub record FlightState : Type 0 where
   -- at most so many segments from `base` on are asked for
@@ -31,6 +31,10 @@ next_new f = f.base + length f.places
 abbrev pub place_of : FlightState → ℕ → Option Place
 place_of f number =
     if nat_lt number f.base then Some Answered else slice_get f.places (number - f.base)
+
+-- the first segment that is lost and may not be sent again
+abbrev pub given_up : FlightState → Option ℕ
+given_up f = option_map (λ index. f.base + index) (position is_spent f.places)
 
 -- whether the number is not above the last one
 abbrev pub is_wanted : Option ℕ → ℕ → Bool

@@ -1,7 +1,6 @@
 -- The pipeline of Interests: what each call does.
-use Rattle.std.specs.Prelude.{◌≡◌, ℕ, ◌+◌, ◌-◌, ◌^◌, ◌<◌, ◌≤◌, ◌⊎◌, min, nat_le, ◌||◌, ◌==◌, false, map, slice_get, slice_set, position, Option, None, Some, is_some, option_map, if◌then◌else◌}
+use Rattle.std.specs.Prelude.{◌≡◌, ℕ, ◌+◌, ◌-◌, ◌^◌, ◌<◌, ◌≤◌, ◌⊎◌, min, nat_le, ◌||◌, ◌==◌, false, map, slice_get, slice_set, Option, None, Some, is_some, option_map, if◌then◌else◌}
 use Rattle.std.specs.List.{list_any}
-use Rattle.std.specs.Option.{option_or}
 use Rattle.interest_pipeline.specs.declared.place.Sending.{Sending}
 use Rattle.interest_pipeline.specs.declared.place.Place.{Place}
 use Rattle.interest_pipeline.specs.declared.place.Place.TheVariants.{InFlight, Lost}
@@ -10,8 +9,8 @@ use Rattle.interest_pipeline.specs.declared.fault.PipelineFault.TheVariants as f
 use Rattle.interest_pipeline.specs.declared.window.TheConstants.{GREATEST_WINDOW}
 use Rattle.interest_pipeline.specs.Rtt.{Rtt, unmeasured, sampled, backed_off}
 use Rattle.interest_pipeline.specs.Window.{WindowState, first_window, grown, halved}
-use Rattle.interest_pipeline.specs.Places.{expire, is_spent, slows, soonest}
-use Rattle.interest_pipeline.specs.Flight.{FlightState, answered, ended, nothing_sent, in_flight_of, pick, place_of, put, spared_all, with_places}
+use Rattle.interest_pipeline.specs.Places.{expire, slows, soonest}
+use Rattle.interest_pipeline.specs.Flight.{FlightState, answered, ended, given_up, nothing_sent, in_flight_of, pick, place_of, put, spared_all, with_places}
 
 -- a pipeline as plain data; moments are in microseconds
 pub record PipelineState : Type 0 where
@@ -20,8 +19,6 @@ pub record PipelineState : Type 0 where
   pub rtt : Rtt
   pub window : WindowState
   pub flight : FlightState
-  -- the segment that was lost once more after its last sending
-  pub gave_up : Option ℕ
 
 -- before any call
 abbrev pub start : ℕ → ℕ → PipelineState
@@ -30,7 +27,6 @@ start limit retries = record {
   rtt = unmeasured;
   window = first_window limit;
   flight = nothing_sent limit;
-  gave_up = None;
 }
 
 -- why no pipeline is made
@@ -43,7 +39,7 @@ IsRefused limit fault.Memory = (1 ≤ limit) × (limit ≤ GREATEST_WINDOW)
 -- the index of the segment to send, counted from the least unanswered one
 abbrev pub choice : PipelineState → Option ℕ
 choice s =
-    if is_some s.gave_up || nat_le s.window.cwnd (in_flight_of s.flight) then None
+    if is_some (given_up s.flight) || nat_le s.window.cwnd (in_flight_of s.flight) then None
     else pick s.flight
 
 -- the number of the segment to send
@@ -100,7 +96,6 @@ slowed s = record s { window = halved s.window; flight = spared_all s.flight }
 abbrev pub with_loss : PipelineState → ℕ → Sending → PipelineState
 with_loss s number x = record s {
   flight = with_places s.flight (slice_set s.flight.places (number - s.flight.base) (Lost x));
-  gave_up = option_or s.gave_up (if x.left == 0 then Some number else None);
 }
 
 -- Only a segment in flight can be lost.
@@ -116,8 +111,6 @@ after_loss s number = losing (place_of s.flight number) s number
 abbrev pub with_expired : PipelineState → ℕ → PipelineState
 with_expired s now = record s {
   flight = with_places s.flight (map (expire now) s.flight.places);
-  gave_up = option_or s.gave_up
-      (option_map (λ index. s.flight.base + index) (position (is_spent now) s.flight.places));
 }
 
 -- A timeout that halves the window also backs the timer off (RFC 6298, rule 5.5).
@@ -129,7 +122,7 @@ after_expire s now =
 
 -- the moment at which `expire` is due
 abbrev pub deadline_of : PipelineState → Option ℕ
-deadline_of s = if is_some s.gave_up then None else soonest s.flight.places
+deadline_of s = if is_some (given_up s.flight) then None else soonest s.flight.places
 
 -- ---- the end
 

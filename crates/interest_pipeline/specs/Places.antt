@@ -16,16 +16,16 @@ abbrev pub is_lost : Place → Bool
 is_lost (Lost x) = true
 is_lost place = false
 
+-- the segment is lost, and may not be sent again
+abbrev pub is_spent : Place → Bool
+is_spent (Lost x) = x.left == 0
+is_spent place = false
+
 -- whether the segment is lost at this moment, and its loss halves the window: it was sent after the
 -- window was halved last
 abbrev pub slows : ℕ → Place → Bool
 slows now (InFlight x) = nat_le x.deadline now && not x.spared
 slows now place = false
-
--- whether the segment is lost at this moment, and may not be sent again
-abbrev pub is_spent : ℕ → Place → Bool
-is_spent now (InFlight x) = nat_le x.deadline now && x.left == 0
-is_spent now place = false
 
 -- the segment is lost, if its time is out
 abbrev pub expire : ℕ → Place → Place

@@ -51,7 +51,7 @@ impl Flight {
     ghost use Rattle.std.specs.List.{list_any};
     ghost use Rattle.interest_pipeline.specs.declared.place.Place.TheVariants.{InFlight, Lost};
     ghost use Rattle.interest_pipeline.specs.Places.{expire, is_lost, is_spent, slows, soonest};
-    ghost use Rattle.interest_pipeline.specs.Flight.{IsEnded, IsIndex, answered, ended, nothing_sent, has_new, in_flight_of, pick, place_of, put, advanced, spared_all, with_places};
+    ghost use Rattle.interest_pipeline.specs.Flight.{IsEnded, IsIndex, answered, ended, given_up, nothing_sent, has_new, in_flight_of, pick, place_of, put, advanced, spared_all, with_places};
 
     /// Returns the flight before any segment has been asked for.
     pub fn new(alloc: Global, limit: usize) -> Result<Flight, AllocError>
@@ -219,12 +219,25 @@ impl Flight {
         self.places.iter().any(|place| place.slows(now))
     }
 
-    /// Returns the index of the first segment whose time is out and that may not be sent again.
-    pub fn spent(&self, now: u64) -> Option<usize>
-        ensures exact { result ≡ position (is_spent now) self.now.places }
+    /// Returns the first segment that is lost and may not be sent again.
+    pub fn given_up(&self) -> Option<u64>
+        ensures { result ≡ given_up self.now }
+    {
+        match self.first_spent() {
+            Some(index) => Some(self.base + index as u64),
+            None => None,
+        }
+    }
+
+    /// Returns the index of the first segment that is lost and may not be sent again.
+    fn first_spent(&self) -> Option<usize>
+        ensures exact { result ≡ position is_spent self.now.places }
         ensures within { IfSome result (λ index. index < length self.now.places) }
     {
-        self.places.iter().position(|place| place.is_spent(now))
+        if self.lost == 0 {
+            return None;
+        }
+        self.places.iter().position(|place| place.is_spent())
     }
 
     /// Returns the least deadline of the segments in flight.

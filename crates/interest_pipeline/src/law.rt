@@ -5,7 +5,7 @@ ghost use Rattle.std.specs.Int.{abs_diff};
 ghost use Rattle.interest_pipeline.specs.declared.rtt.Smoothed.{Smoothed};
 ghost use Rattle.interest_pipeline.specs.Rtt.{IsWithin, later};
 ghost use Rattle.interest_pipeline.specs.Window.{halved};
-ghost use Rattle.interest_pipeline.specs.Flight.{IsEnded, in_flight_of, is_wanted};
+ghost use Rattle.interest_pipeline.specs.Flight.{IsEnded, given_up, in_flight_of, is_wanted};
 ghost use Rattle.interest_pipeline.specs.Pipeline.{PipelineState, after_expire, after_next, deadline_of, number_to_send, start};
 ghost use Rattle.interest_pipeline.specs.Runs.{Answer, Call, IsInFlight, IsLost, after, halves, sendings_of, state_after, was_answered};
 
@@ -23,7 +23,8 @@ pub fn the_window_limits_what_is_sent()
 {}
 
 /// Law: after any calls, no segment above the last one is sent, none that was answered after it had
-/// been sent, and none more than `retries` + 1 times. A segment that is given up was sent so often.
+/// been sent, and none more than `retries` + 1 times. A segment that is given up was sent so often,
+/// has not been answered, and is not above the last one.
 pub fn no_segment_is_sent_too_often()
     ensures wanted { (limit retries number : ℕ) (calls : List Call)
         → let s = state_after (start limit retries) calls in
@@ -34,8 +35,10 @@ pub fn no_segment_is_sent_too_often()
     ensures count { (limit retries number : ℕ) (calls : List Call)
         → sendings_of (start limit retries) calls number ≤ retries + 1 }
     ensures gave_up { (limit retries number : ℕ) (calls : List Call)
-        → (state_after (start limit retries) calls).gave_up ≡ Some number
-        → sendings_of (start limit retries) calls number ≡ retries + 1 }
+        → let s = state_after (start limit retries) calls in given_up s.flight ≡ Some number
+        → (sendings_of (start limit retries) calls number ≡ retries + 1)
+        × (was_answered (start limit retries) calls number ≡ false)
+        × (is_wanted s.flight.last number ≡ true) }
 {}
 
 /// Law: after any calls, a segment that was sent, and is not above the last one, has been answered,
@@ -52,7 +55,7 @@ pub fn no_segment_is_forgotten()
         ⊎ IsLost s number) }
     ensures progress { (limit retries : ℕ) (calls : List Call) → 1 ≤ limit
         → let s = state_after (start limit retries) calls in
-        s.flight.base < 2 ^ 64 - 1 → (IsEnded s.flight → ⊥) → s.gave_up ≡ None
+        s.flight.base < 2 ^ 64 - 1 → (IsEnded s.flight → ⊥) → given_up s.flight ≡ None
         → (is_some (number_to_send s) || is_some (deadline_of s)) ≡ true }
     ensures expires { (s : PipelineState) (moment : ℕ) → deadline_of s ≡ Some moment
         → in_flight_of (after_expire s moment).flight < in_flight_of s.flight }

@@ -20,7 +20,6 @@ pub struct Pipeline {
     rtt: RttEstimator,
     window: Window,
     flight: Flight,
-    gave_up: Option<u64>,
 }
 
 impl Model for Pipeline {
@@ -33,15 +32,13 @@ impl Model for Pipeline {
       rtt = p.rtt;
       window = p.window;
       flight = p.flight;
-      gave_up = p.gave_up;
     } };
 }
 
 impl Pipeline {
     ghost use Rattle.std.specs.Prelude.{◌≡◌, ◌↔◌, IfSome, MatchResult, IsTrue, Some};
-    ghost use Rattle.std.specs.Option.{option_or};
-    ghost use Rattle.interest_pipeline.specs.Flight.{IsEnded, IsIndex, in_flight_of};
-    ghost use Rattle.interest_pipeline.specs.Pipeline.{IsRefused, after_answer, after_expire, after_last, after_loss, after_next, choice, deadline_of, number_to_send, sending_at, slowed, start, with_answer, with_expired, with_loss};
+    ghost use Rattle.interest_pipeline.specs.Flight.{IsEnded, IsIndex, given_up, in_flight_of};
+    ghost use Rattle.interest_pipeline.specs.Pipeline.{IsRefused, after_answer, after_expire, after_last, after_loss, after_next, choice, deadline_of, number_to_send, sending_at, slowed, start, with_answer};
 
     /// Returns a pipeline that has sent nothing. `limit` is the greatest window, in segments, and
     /// how many segments from the least unanswered one on may be asked for. A segment is sent at
@@ -63,13 +60,12 @@ impl Pipeline {
             rtt: RttEstimator::new(),
             window: Window::new(limit),
             flight,
-            gave_up: None,
         })
     }
 
     /// Returns the number of the segment whose Interest is to be sent at this moment, and counts it
     /// as sent: the first lost one, or else the next new one. Returns `None` if the window has no
-    /// room, if there is nothing to send, or after a segment was given up.
+    /// room, if there is nothing to send, or if a segment is given up.
     pub fn next(&mut self, now: u64) -> Option<u64>
         ensures number { result ≡ number_to_send self.old }
         ensures after { self.new ≡ after_next self.old now }
@@ -86,7 +82,7 @@ impl Pipeline {
         ensures exact { result ≡ choice self.now }
         ensures index { IfSome result (λ index. IsIndex self.now.flight index) }
     {
-        if self.gave_up.is_some() || self.window.cwnd() <= self.flight.in_flight() {
+        if self.gave_up().is_some() || self.window.cwnd() <= self.flight.in_flight() {
             return None;
         }
         self.flight.pick()
@@ -138,30 +134,10 @@ impl Pipeline {
         ensures { self.new ≡ after_loss self.old number }
     {
         if let Some(Place::InFlight(sending)) = self.flight.place_of(number) {
-            self.take_loss(number, sending);
+            self.flight.lose(number, sending);
             if !sending.spared {
                 self.slow();
             }
-        }
-    }
-
-    /// Takes a loss of a sending, which leaves the window as it was.
-    fn take_loss(&mut self, number: u64, sending: Sending)
-        ensures { self.new ≡ with_loss self.old number sending }
-    {
-        self.flight.lose(number, sending);
-        if sending.left == 0 {
-            self.give_up(number);
-        }
-    }
-
-    /// Gives up a segment, unless one was given up before.
-    fn give_up(&mut self, number: u64)
-        ensures { self.new
-            ≡ record self.old { gave_up = option_or self.old.gave_up (Some number) } }
-    {
-        if self.gave_up.is_none() {
-            self.gave_up = Some(number);
         }
     }
 
@@ -179,30 +155,19 @@ impl Pipeline {
         ensures { self.new ≡ after_expire self.old now }
     {
         let slows = self.flight.slows(now);
-        self.take_expired(now);
+        self.flight.expire(now);
         if slows {
             self.slow();
             self.rtt.back_off();
         }
     }
 
-    /// Takes the losses of segments whose time is out, which leave the window as it was.
-    fn take_expired(&mut self, now: u64)
-        ensures { self.new ≡ with_expired self.old now }
-    {
-        if let Some(index) = self.flight.spent(now) {
-            let number = self.flight.number(index);
-            self.give_up(number);
-        }
-        self.flight.expire(now);
-    }
-
     /// Returns the moment at which `expire` is to be called, or `None` if no segment is in flight
-    /// or a segment was given up.
+    /// or a segment is given up.
     pub fn deadline(&self) -> Option<u64>
         ensures { result ≡ deadline_of self.now }
     {
-        if self.gave_up.is_some() {
+        if self.gave_up().is_some() {
             return None;
         }
         self.flight.soonest()
@@ -223,12 +188,12 @@ impl Pipeline {
         self.flight.is_done()
     }
 
-    /// Returns the segment that was lost after its last sending, the first such segment if there
-    /// are several.
+    /// Returns the segment that is given up: the first one that is lost and was sent `retries` + 1
+    /// times. An answer to it can still come.
     pub fn gave_up(&self) -> Option<u64>
-        ensures { result ≡ self.now.gave_up }
+        ensures { result ≡ given_up self.now.flight }
     {
-        self.gave_up
+        self.flight.given_up()
     }
 
     /// Returns the window: how many segments may be in flight.

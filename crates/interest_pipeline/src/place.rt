@@ -50,12 +50,12 @@ impl Place {
         }
     }
 
-    /// Returns whether the segment is lost at this moment, and may not be sent again.
-    pub fn is_spent(self, now: u64) -> bool
-        ensures { result ≡ is_spent now self }
+    /// Returns whether the segment is lost, and may not be sent again.
+    pub fn is_spent(self) -> bool
+        ensures { result ≡ is_spent self }
     {
         match self {
-            Place::InFlight(sending) => sending.deadline <= now && sending.left == 0,
+            Place::Lost(sending) => sending.left == 0,
             _ => false,
         }
     }

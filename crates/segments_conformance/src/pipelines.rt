@@ -76,7 +76,9 @@ const CALLS: &str = "
 # A segment is given up after its last sending. Then nothing more is sent.
 8 1 s@0 l0 g s@1 l0 g s@2 d -> 0 - 0 0 - -
 8 0 s@0 s@0 x@1000000 g d -> 0 1 0 -
-8 0 s@0 s@0 l1 a1@1 g s@1 q -> 0 1 1 - 0
+# An answer to it can still come, or it may be above the last one.
+8 0 s@0 s@0 l1 g s@1 a1@5 g s@5 s@5 -> 0 1 1 - - 2 -
+8 0 s@0 s@0 l1 g e0 g s@5 a0@5 q -> 0 1 1 - - 1
 # The last segment: none above it is sent, and those in flight are forgotten.
 8 3 e0 s@0 s@0 q a0@5 q s@5 d -> 0 - 0 1 - -
 8 3 s@0 s@0 a0@5 e0 q f s@5 d l1 a1@6 -> 0 1 1 0 - -

@@ -1,4 +1,4 @@
-use Rattle.interest_pipeline.proofs.GivingUp.{given_up}
+use Rattle.interest_pipeline.proofs.GivingUp.{given_up_sent}
 use Rattle.interest_pipeline.proofs.Runs.{next_is_sendable, sent_count}
 use Rattle.interest_pipeline.proofs.law.no_segment_is_sent_too_often.Goals as goal
 
@@ -12,4 +12,4 @@ pub returns-clause-count : goal.returns-clause-count
 returns-clause-count c = sent_count
 
 pub returns-clause-gave_up : goal.returns-clause-gave_up
-returns-clause-gave_up c = given_up
+returns-clause-gave_up c = given_up_sent
