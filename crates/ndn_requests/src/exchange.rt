@@ -295,7 +295,7 @@ fn put_content(contents: &mut Vec<u8>, content: Option<&[u8]>) -> Result<(), Mem
 /// Returns the name of the Data in the datagram if the signature of the Data is wrong. Returns
 /// `None` for any other datagram. A signature is checked if it is a DigestSha256, or an HMAC with a
 /// key of the book.
-fn forged_in(alloc: Global, datagram: &[u8], book: &KeyBook) -> Result<Option<NameBuf>, Memory>
+pub fn forged_in(alloc: Global, datagram: &[u8], book: &KeyBook) -> Result<Option<NameBuf>, Memory>
     ensures { IfOk result (IsForged book.now (frame_at datagram.now)) }
 {
     match read_frame(datagram) {

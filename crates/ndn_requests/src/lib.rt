@@ -9,7 +9,7 @@ mod names;
 mod parameters;
 mod reply;
 
-pub use exchange::{Exchange, Progress, View};
+pub use exchange::{Exchange, Progress, View, forged_in};
 pub use fault::{Failure, Silence};
 pub use law::{
     commands_tell_whose_they_are, nodes_read_what_is_asked, replies_are_explained,

@@ -19,5 +19,5 @@ pub use law::{
     segments_give_the_file_in_any_order, the_next_segment_is_wanted,
     written_segments_are_of_the_file,
 };
-pub use names::version_name;
+pub use names::{segment_name, version_name};
 pub use segment::Segment;
