@@ -11,6 +11,8 @@ use Rattle.ndn_requests.specs.declared.fault.Silence.TheVariants.{Closed, Far, L
 use Rattle.ndn_requests.specs.declared.fault.Failure.{Failure}
 use Rattle.ndn_requests.specs.declared.fault.Failure.TheVariants.{Refused, NoStatus, Nack, Silent}
 use Rattle.ndn_requests.specs.Fault.{silence_text, failure_text}
+use Rattle.ndn_segments.specs.declared.fault.SegmentFault.{SegmentFault}
+use Rattle.ndn_segments.specs.declared.fault.SegmentFault.TheVariants.{OtherFile, NoSegmentNumber, NoFinalBlockId, OtherFinalBlockId, AboveLast, ContentTooLong, BeyondWindow, OtherContent, Memory as SegmentMemory}
 use Rattle.ndn_client.specs.declared.fault.Fault.{Fault}
 use Rattle.ndn_client.specs.declared.fault.Fault.TheVariants as fault
 
@@ -34,8 +36,21 @@ failure_status NoStatus = 1
 failure_status Nack = 4
 failure_status (Silent why) = silence_status why
 
+-- why a Data is no segment of a file
+abbrev pub segment_words : SegmentFault → List ℕ
+segment_words OtherFile = codes "its name belongs to another file"
+segment_words NoSegmentNumber = codes "its name has no segment number"
+segment_words NoFinalBlockId = codes "it has no FinalBlockId"
+segment_words OtherFinalBlockId = codes "its FinalBlockId is not that of the segments before"
+segment_words AboveLast = codes "its number is above that in its FinalBlockId"
+segment_words ContentTooLong = codes "its Content is too long"
+segment_words BeyondWindow = codes "it is too far ahead"
+segment_words OtherContent = codes "it came before with another Content"
+segment_words SegmentMemory = codes "out of memory"
+
 -- The exit status. It is 1 if a key is named without a key file, or if the key file is too large or
--- its content has a fault. It is 2 if an argument is not UTF-8. It is 3 if reading, writing or
+-- its content has a fault, or if a Data is no segment of the file. It is 2 if an argument is not
+-- UTF-8. It is 3 if reading, writing or
 -- sending failed, if a port could not be bound, if memory ran out, or if no answer came to the
 -- packet of `send`. It is 7 if the signature of the answer is wrong. A request that was not done,
 -- and the fault of a job, have their own exit statuses.
@@ -54,6 +69,9 @@ status_of (fault.Unbound endpoint) = 3
 status_of (fault.Silent why) = 3
 status_of (fault.NotDone why) = failure_status why
 status_of (fault.Forged name) = 7
+status_of (fault.NotSegment name why) = 1
+status_of (fault.Unanswered name) = 5
+status_of (fault.Unwritten path kind) = 3
 
 -- the message for standard error, which ends with an LF, or None if the command-line parser makes
 -- the message
@@ -75,3 +93,9 @@ text_of (fault.Silent why) = silence_text why
 text_of (fault.NotDone why) = failure_text why
 text_of (fault.Forged name) = Some (codes "error: the signature of the Data " ++ (uri_of name
     ++ codes " is wrong; --unverified prints the Data nevertheless\n"))
+text_of (fault.NotSegment name why) = Some (codes "error: the Data " ++ (uri_of name
+    ++ (codes " is no segment of the file: " ++ (segment_words why ++ codes "\n"))))
+text_of (fault.Unanswered name) =
+    Some (codes "error: no answer came in time for " ++ (uri_of name ++ codes "\n"))
+text_of (fault.Unwritten path kind) = Some (codes "error: the file " ++ (string_bytes path
+    ++ (codes " cannot be written: " ++ (cause_of kind ++ codes "\n"))))

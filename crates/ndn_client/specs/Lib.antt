@@ -2,6 +2,7 @@ pub mod Fault
 pub mod KeyFile
 pub mod Input
 pub mod Answer
+pub mod Download
 pub mod Plan
 pub mod Source
 pub use Rattle.ndn_explain.specs.Show

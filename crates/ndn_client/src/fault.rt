@@ -1,6 +1,6 @@
 //! Why the program fails: the message and the exit status.
 ghost use Rattle.std.specs.Prelude.{◌≡◌};
-ghost use Rattle.ndn_client.specs.Fault.{failure_status};
+ghost use Rattle.ndn_client.specs.Fault.{failure_status, segment_words};
 
 use file_faults::{KeyMessage, cause_of};
 use hmac_keys::KeyFault;
@@ -8,6 +8,7 @@ use ndn_jobs::ToolFault;
 use ndn_names::NameBuf;
 use ndn_packets::WriteFault;
 use ndn_requests::{Failure, Silence};
+use ndn_segments::SegmentFault;
 use ndn_tlv::Memory;
 use std::alloc::AllocError;
 use std::fmt;
@@ -58,6 +59,25 @@ pub enum Fault {
         /// The name of the Data.
         name: NameBuf,
     },
+    /// A Data that came back is no segment of the file.
+    NotSegment {
+        /// The name of the Data.
+        name: NameBuf,
+        /// Why the Data is no segment of the file.
+        why: SegmentFault,
+    },
+    /// No answer came in time to an Interest for a file or one of its segments.
+    Unanswered {
+        /// The name of the Interest.
+        name: NameBuf,
+    },
+    /// The file cannot be written.
+    Unwritten {
+        /// The path of the file.
+        path: String,
+        /// Why the file cannot be written.
+        kind: ErrorKind,
+    },
 }
 
 impl Fault {
@@ -66,8 +86,8 @@ impl Fault {
 
     /// Returns the exit status. For `Tool`, the exit status is that of the job's fault. For any
     /// other fault, the exit status is 1 if a key is named without a key file, if the key file is
-    /// too large or its content has a fault, or if the answer says that a request was not done. The
-    /// exit status is 2 if an argument is not UTF-8. The exit status is 3 if reading, writing or
+    /// too large or its content has a fault, if the answer says that a request was not done, or if a
+    /// Data is no segment of the file. The exit status is 2 if an argument is not UTF-8. The exit status is 3 if reading, writing or
     /// sending failed, if a port could not be bound, if memory ran out, or if no answer came to the
     /// packet of `send`. For any other request the exit status is 4 if a Nack came back, 5 if no
     /// answer came in time, 6 if no program listens at the destination, and 7 if the signature of
@@ -83,8 +103,11 @@ impl Fault {
             | Fault::NoKeyFile => 1,
             Fault::NotDone(failure) => failure_status(*failure),
             Fault::Forged { .. } => 7,
+            Fault::NotSegment { .. } => 1,
+            Fault::Unanswered { .. } => 5,
             Fault::Keys(KeyFault::Memory)
             | Fault::Unread { .. }
+            | Fault::Unwritten { .. }
             | Fault::Clock
             | Fault::Write
             | Fault::Input
@@ -104,6 +127,23 @@ fn failure_status(failure: Failure) -> u8
         Failure::Nack => 4,
         Failure::Silent(Silence::Far | Silence::Late | Silence::Changed) => 5,
         Failure::Silent(Silence::Closed) => 6,
+    }
+}
+
+/// Returns why a Data is no segment of a file, as words.
+fn segment_words(why: SegmentFault) -> &'static str
+    ensures { result.now ≡ segment_words why }
+{
+    match why {
+        SegmentFault::OtherFile => "its name belongs to another file",
+        SegmentFault::NoSegmentNumber => "its name has no segment number",
+        SegmentFault::NoFinalBlockId => "it has no FinalBlockId",
+        SegmentFault::OtherFinalBlockId => "its FinalBlockId is not that of the segments before",
+        SegmentFault::AboveLast => "its number is above that in its FinalBlockId",
+        SegmentFault::ContentTooLong => "its Content is too long",
+        SegmentFault::BeyondWindow => "it is too far ahead",
+        SegmentFault::OtherContent => "it came before with another Content",
+        SegmentFault::Memory => "out of memory",
     }
 }
 
@@ -143,6 +183,19 @@ impl fmt::Display for Fault {
                 f,
                 "error: the signature of the Data {name} is wrong; --unverified prints the Data nevertheless"
             ),
+            Fault::NotSegment { name, why } => writeln!(
+                f,
+                "error: the Data {name} is no segment of the file: {}",
+                segment_words(*why)
+            ),
+            Fault::Unanswered { name } => writeln!(f, "error: no answer came in time for {name}"),
+            Fault::Unwritten { path, kind } => {
+                writeln!(
+                    f,
+                    "error: the file {path} cannot be written: {}",
+                    cause_of(*kind)
+                )
+            }
         }
     }
 }

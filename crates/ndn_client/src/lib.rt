@@ -3,20 +3,23 @@
 #![tactic(auto)]
 
 mod answer;
+mod download;
 mod fault;
+mod get;
 mod input;
 mod key_file;
 mod plan;
 mod running;
 mod source;
 
+pub use download::{Download, stem_of};
 pub use fault::Fault;
 pub use input::{packet_in, read_input_line, read_packet_input};
 pub use key_file::{read_book, read_key_file, unread_keys};
 pub use ndn_explain::put_input;
 pub use ndn_jobs::{
-    AskJob, CommandJob, DataJob, ExplainJob, InterestJob, Job, KeyChoice, LinkJob, Ports, SendJob,
-    Stamp, TagJob, Token, ToolFault, Usage, parse_words,
+    AskJob, CommandJob, DataJob, ExplainJob, GetJob, InterestJob, Job, KeyChoice, LinkJob, Ports,
+    SendJob, Stamp, TagJob, Token, ToolFault, Usage, parse_words,
 };
 pub use ndn_requests::{
     Exchange, Failure, NodeList, Outcome, Progress, Silence, View, judge, put_explained, silence_of,

@@ -3,6 +3,7 @@
 ghost use Rattle.std.specs.Prelude.{◌≤◌, length, IfOk};
 
 use crate::fault::Fault;
+use crate::get::get;
 use crate::input::{read_input_line, read_packet_input};
 use crate::key_file::{read_key_file, unread_keys};
 use crate::plan::{InputForm, Plan, fault_of_silence, input_form, plan_of};
@@ -20,7 +21,7 @@ use std::{env, io};
 
 /// The greatest length of the payload of a UDP datagram, in octets. Over IPv4 the greatest length
 /// is less by 20.
-const MAX_DATAGRAM: usize = 65_527;
+pub(crate) const MAX_DATAGRAM: usize = 65_527;
 
 /// The path of the system's random source.
 const RANDOM_SOURCE: &str = "/dev/urandom";
@@ -46,7 +47,7 @@ enum Missed {
 /// The fault determines the message on standard error and the exit status.
 pub fn run<R>(rt: &R) -> Result<(), Fault>
 where
-    R: Clock + Env + AllocGlobal + Eprint + Files + Input + Net + Print,
+    R: Clock + Env + AllocGlobal + Eprint + Files<File = File> + Input + Net + Print,
 {
     let job = asked_job(rt)?;
     let names_no_keys = job.key_file().is_none();
@@ -58,16 +59,27 @@ where
 
 fn run_job<R>(rt: &R, job: Job) -> Result<(), Fault>
 where
-    R: Clock + AllocGlobal + Eprint + Files + Input + Net + Print,
+    R: Clock + AllocGlobal + Eprint + Files<File = File> + Input + Net + Print,
 {
     let book = book_of(rt, &job)?;
+    if let Job::Get(job) = &job {
+        return get(rt, job, &book);
+    }
+    run_other(rt, job, &book)
+}
+
+/// Runs a job other than `Get`.
+fn run_other<R>(rt: &R, job: Job, book: &KeyBook) -> Result<(), Fault>
+where
+    R: Clock + AllocGlobal + Eprint + Input + Net + Print,
+{
     match input_form(&job) {
-        InputForm::Nothing => run_attempts(rt, job, &book),
+        InputForm::Nothing => run_attempts(rt, job, book),
         InputForm::Packet => {
             let input = read_packet_input(rt.alloc(), rt.reader())?;
-            run_plan(rt, &job, &book, &input)
+            run_plan(rt, &job, book, &input)
         }
-        InputForm::Lines => run_lines(rt, &job, &book, &mut input_of(rt)?),
+        InputForm::Lines => run_lines(rt, &job, book, &mut input_of(rt)?),
     }
 }
 
@@ -253,7 +265,7 @@ pub fn socket_of<R: Net>(rt: &R, from: Option<u16>, to: SocketAddr) -> Result<Ud
     Ok(socket)
 }
 
-fn send(socket: &UdpSocket, packet: &[u8]) -> Result<(), Fault> {
+pub(crate) fn send(socket: &UdpSocket, packet: &[u8]) -> Result<(), Fault> {
     match socket.send(packet) {
         Ok(sent) if sent == packet.len() => Ok(()),
         _ => Err(Fault::Send),

@@ -9,7 +9,7 @@ use Rattle.clap.specs.Simple.{App, app_of, new_app, new_rule, new_shape, with_ru
 use Rattle.ndn_command_line.specs.declared.argument.Argument.{Argument}
 use Rattle.ndn_command_line.specs.declared.argument.Argument.TheVariants.{Positional, MaybePositional, Optional, Required, Flag}
 use Rattle.ndn_command_line.specs.declared.subcommand.Subcommand.{Subcommand}
-use Rattle.ndn_command_line.specs.declared.subcommand.Subcommand.TheVariants.{Interest, Data, Command as AnyCommand, Route, Strategy, Cache, Repository, Tag, Show, Explain, Send, Peek}
+use Rattle.ndn_command_line.specs.declared.subcommand.Subcommand.TheVariants.{Interest, Data, Command as AnyCommand, Route, Strategy, Cache, Repository, Tag, Show, Explain, Send, Peek, Get}
 
 -- ---- arguments
 
@@ -188,6 +188,17 @@ peek_app = a_subcommand (codes "peek") (
     ∷ a_flag (codes "unverified")
     ∷ [])
 
+unfoldable pub get_app : App
+get_app = a_subcommand (codes "get") (
+    a_positional (codes "URI")
+    ∷ a_required_option (codes "to")
+    ∷ an_option (codes "from")
+    ∷ an_option (codes "output")
+    ∷ an_option (codes "lifetime")
+    ∷ an_option (codes "retries")
+    ∷ an_option (codes "keys")
+    ∷ [])
+
 -- ---- the subcommands by name
 
 abbrev pub app_for : Subcommand → App
@@ -203,6 +214,7 @@ app_for Show = show_app
 app_for Explain = explain_app
 app_for Send = send_app
 app_for Peek = peek_app
+app_for Get = get_app
 
 abbrev pub subcommand_named : List ℕ → Option Subcommand
 subcommand_named word =
@@ -217,8 +229,9 @@ subcommand_named word =
     if bytes_eq word (codes "show") then Some Show else (
     if bytes_eq word (codes "explain") then Some Explain else (
     if bytes_eq word (codes "send") then Some Send else (
-    if bytes_eq word (codes "peek") then Some Peek else
-    None)))))))))))
+    if bytes_eq word (codes "peek") then Some Peek else (
+    if bytes_eq word (codes "get") then Some Get else
+    None))))))))))))
 
 -- The command of the program. It has a version and requires a subcommand. If there are no
 -- arguments, the help is shown. No subcommand is named `help`.
@@ -234,7 +247,7 @@ tool = record {
   subs =
       interest_app.top ∷ data_app.top ∷ command_app.top ∷ route_app.top ∷ strategy_app.top
       ∷ cache_app.top ∷ repository_app.top ∷ tag_app.top ∷ show_app.top
-      ∷ explain_app.top ∷ send_app.top ∷ peek_app.top ∷ [];
+      ∷ explain_app.top ∷ send_app.top ∷ peek_app.top ∷ get_app.top ∷ [];
 }
 
 -- ---- the commands that are built

@@ -32,6 +32,7 @@ pub fn tool_command<'a>(alloc: Global) -> Result<Command<'a>, AllocError>
         Subcommand::Explain,
         Subcommand::Send,
         Subcommand::Peek,
+        Subcommand::Get,
     ];
     with_subcommands(alloc, command, &subcommands)
 }

@@ -214,6 +214,26 @@ Example: the Content of /A, from the node at port 6363, and from a node on anoth
   $ ndn_tool peek /A --to 6363 --raw
   $ ndn_tool peek /A --to 192.0.2.1:6363 --raw";
 
+pub const GET: &str =
+    "A file is Data with the names NAME/v=VERSION/seg=0, NAME/v=VERSION/seg=1 and so on. Each has a
+piece of the file and, as FinalBlockId, the number of the last segment. URI is NAME or
+NAME/v=VERSION. Without a version, the first Data that the network has under NAME decides the
+version. A file without versions has the names NAME/seg=0, NAME/seg=1 and so on.
+
+Up to 12 Interests are sent at once. An Interest without an answer is sent again with a new Nonce,
+after a time that depends on how soon other answers came; so is an Interest whose answer is a Nack
+for congestion. The signature of each segment is checked: a DigestSha256, and with --keys an HMAC, if
+the file has its key. All other signatures are not checked.
+
+With --output, the file is written as FILE.part, which becomes FILE when the last segment is written.
+If the file cannot be fetched, FILE stays as it was.
+
+The exit status is 1 if a Data is no segment of the file, 4 if a Nack comes back, 5 if a segment has
+no answer in time, 6 if no program listens on the port, and 7 if a signature is wrong.
+
+Example: the file /data/log, from the node at port 6363.
+  $ ndn_tool get /data/log --to 6363 --output log";
+
 pub const TIME: &str = "The time of the signature, in milliseconds since 1970";
 
 pub const SEQ: &str = "The sequence number of the signature; none if absent";
@@ -259,3 +279,5 @@ pub const PEEK_TIMEOUT: &str =
     "How long to wait for an answer, in milliseconds; the lifetime if absent";
 
 pub const RETRIES: &str = "How often the Interest is sent again if no answer comes; 0 if absent";
+
+pub const GET_RETRIES: &str = "How often the Interest of a segment is sent again; 15 if absent";

@@ -2,7 +2,7 @@
 
 ghost use Rattle.std.specs.Prelude.{map, IfOk};
 ghost use Rattle.clap.specs.Simple.{App};
-ghost use Rattle.ndn_command_line.specs.CommandLine.{HasApp, rule_for, a_subcommand, app_for, with_subcommands, interest_app, data_app, command_app, route_app, strategy_app, cache_app, repository_app, tag_app, show_app, explain_app, send_app, peek_app, stamped};
+ghost use Rattle.ndn_command_line.specs.CommandLine.{HasApp, rule_for, a_subcommand, app_for, with_subcommands, interest_app, data_app, command_app, route_app, strategy_app, cache_app, repository_app, tag_app, show_app, explain_app, send_app, peek_app, get_app, stamped};
 
 use crate::argument::{Argument, with_arguments};
 use crate::help;
@@ -24,6 +24,7 @@ pub enum Subcommand {
     Explain,
     Send,
     Peek,
+    Get,
 }
 
 impl Subcommand {
@@ -47,6 +48,7 @@ impl Subcommand {
             "explain" => Some(Subcommand::Explain),
             "send" => Some(Subcommand::Send),
             "peek" => Some(Subcommand::Peek),
+            "get" => Some(Subcommand::Get),
             _ => None,
         }
     }
@@ -68,6 +70,7 @@ impl Subcommand {
             Subcommand::Explain => explain_command(alloc),
             Subcommand::Send => send_command(alloc),
             Subcommand::Peek => peek_command(alloc),
+            Subcommand::Get => get_command(alloc),
         }
     }
 }
@@ -298,6 +301,22 @@ fn peek_command<'a>(alloc: Global) -> Result<Command<'a>, AllocError>
     ];
     let about = "Writes an Interest; with --to, sends it and explains the answer";
     described(alloc, "peek", about, help::PEEK, &arguments)
+}
+
+fn get_command<'a>(alloc: Global) -> Result<Command<'a>, AllocError>
+    ensures { IfOk result (HasApp get_app) }
+{
+    let arguments = [
+        Argument::Positional("URI", "The name of the file, with or without its version"),
+        Argument::Required("to", "ENDPOINT", help::TO),
+        Argument::Optional("from", "PORT", help::FROM),
+        Argument::Optional("output", "FILE", "Writes FILE instead of standard output"),
+        Argument::Optional("lifetime", "N", help::LIFETIME),
+        Argument::Optional("retries", "N", help::GET_RETRIES),
+        Argument::Optional("keys", "FILE", "The key file for checking signatures"),
+    ];
+    let about = "Fetches a file, which is Data in segments";
+    described(alloc, "get", about, help::GET, &arguments)
 }
 
 /// Adds the options of a stamp to a command: time, Nonce, sequence number, key, ports and timeout.

@@ -8,13 +8,15 @@ use Rattle.ndn_jobs.specs.declared.job.TagJob.{TagJob}
 use Rattle.ndn_jobs.specs.declared.job.ExplainJob.{ExplainJob}
 use Rattle.ndn_jobs.specs.declared.job.SendJob.{SendJob}
 use Rattle.ndn_jobs.specs.declared.job.AskJob.{AskJob}
+use Rattle.ndn_jobs.specs.declared.job.GetJob.{GetJob}
 use Rattle.ndn_jobs.specs.declared.job.Job.{Job}
-use Rattle.ndn_jobs.specs.declared.job.Job.TheVariants.{Help, Interest, Data, Command, Tag, Show, Explain, Send, Ask}
+use Rattle.ndn_jobs.specs.declared.job.Job.TheVariants.{Help, Interest, Data, Command, Tag, Show, Explain, Send, Ask, Get}
 use Rattle.ndn_command_line.specs.declared.subcommand.Subcommand.TheVariants as sub
 use Rattle.ndn_jobs.specs.Options.{IsLinkJob, IsDataJob, IsCommandJob, IsTagJob, IsShowJob, IsExplainJob, IsSendJob}
 use Rattle.ndn_jobs.specs.ShortForm.{IsShortJob}
 use Rattle.ndn_jobs.specs.RepositoryForm.{IsRepositoryJob}
 use Rattle.ndn_jobs.specs.Ask.{is_list, IsListJob, IsPeekJob}
+use Rattle.ndn_jobs.specs.Get.{IsGetJob}
 use Rattle.ndn_jobs.specs.Command.{IsJobFor, IsListedJob}
 
 module _ (now : ℕ) (seed name : List ℕ) (rows : List Row) where
@@ -28,6 +30,7 @@ module _ (now : ℕ) (seed name : List ℕ) (rows : List Row) where
   an_interest (Explain job) h = absurd h
   an_interest (Send job) h = absurd h
   an_interest (Ask job) h = absurd h
+  an_interest (Get job) h = absurd h
 
   pub a_data : (job : Job) → IsJobFor sub.Data now seed name rows job → (x : DataJob) × IsDataJob rows x
   a_data (Help error) h = absurd h
@@ -39,6 +42,7 @@ module _ (now : ℕ) (seed name : List ℕ) (rows : List Row) where
   a_data (Explain job) h = absurd h
   a_data (Send job) h = absurd h
   a_data (Ask job) h = absurd h
+  a_data (Get job) h = absurd h
 
   pub a_command : (job : Job) → IsJobFor sub.Command now seed name rows job → (x : CommandJob) × IsCommandJob rows x
   a_command (Help error) h = absurd h
@@ -50,6 +54,7 @@ module _ (now : ℕ) (seed name : List ℕ) (rows : List Row) where
   a_command (Explain job) h = absurd h
   a_command (Send job) h = absurd h
   a_command (Ask job) h = absurd h
+  a_command (Get job) h = absurd h
 
   pub a_cache : (job : Job) → IsJobFor sub.Cache now seed name rows job → (x : CommandJob) × IsShortJob now seed name rows x
   a_cache (Help error) h = absurd h
@@ -61,6 +66,7 @@ module _ (now : ℕ) (seed name : List ℕ) (rows : List Row) where
   a_cache (Explain job) h = absurd h
   a_cache (Send job) h = absurd h
   a_cache (Ask job) h = absurd h
+  a_cache (Get job) h = absurd h
 
   pub a_repository : (job : Job) → IsJobFor sub.Repository now seed name rows job → (x : CommandJob) × IsRepositoryJob now seed rows x
   a_repository (Help error) h = absurd h
@@ -72,6 +78,7 @@ module _ (now : ℕ) (seed name : List ℕ) (rows : List Row) where
   a_repository (Explain job) h = absurd h
   a_repository (Send job) h = absurd h
   a_repository (Ask job) h = absurd h
+  a_repository (Get job) h = absurd h
 
   pub a_tag : (job : Job) → IsJobFor sub.Tag now seed name rows job → (x : TagJob) × IsTagJob rows x
   a_tag (Help error) h = absurd h
@@ -83,6 +90,7 @@ module _ (now : ℕ) (seed name : List ℕ) (rows : List Row) where
   a_tag (Explain job) h = absurd h
   a_tag (Send job) h = absurd h
   a_tag (Ask job) h = absurd h
+  a_tag (Get job) h = absurd h
 
   pub a_show : (job : Job) → IsJobFor sub.Show now seed name rows job → (x : Vec ℕ Global) × IsShowJob rows x
   a_show (Help error) h = absurd h
@@ -94,6 +102,7 @@ module _ (now : ℕ) (seed name : List ℕ) (rows : List Row) where
   a_show (Explain job) h = absurd h
   a_show (Send job) h = absurd h
   a_show (Ask job) h = absurd h
+  a_show (Get job) h = absurd h
 
   pub an_explanation : (job : Job) → IsJobFor sub.Explain now seed name rows job → (x : ExplainJob) × IsExplainJob rows x
   an_explanation (Help error) h = absurd h
@@ -105,6 +114,7 @@ module _ (now : ℕ) (seed name : List ℕ) (rows : List Row) where
   an_explanation (Explain job) h = (job, h)
   an_explanation (Send job) h = absurd h
   an_explanation (Ask job) h = absurd h
+  an_explanation (Get job) h = absurd h
 
   pub a_send : (job : Job) → IsJobFor sub.Send now seed name rows job → (x : SendJob) × IsSendJob rows x
   a_send (Help error) h = absurd h
@@ -116,6 +126,7 @@ module _ (now : ℕ) (seed name : List ℕ) (rows : List Row) where
   a_send (Explain job) h = absurd h
   a_send (Send job) h = (job, h)
   a_send (Ask job) h = absurd h
+  a_send (Get job) h = absurd h
 
   pub a_peek : (job : Job) → IsJobFor sub.Peek now seed name rows job → (x : AskJob) × IsPeekJob now seed rows x
   a_peek (Help error) h = absurd h
@@ -127,6 +138,19 @@ module _ (now : ℕ) (seed name : List ℕ) (rows : List Row) where
   a_peek (Explain job) h = absurd h
   a_peek (Send job) h = absurd h
   a_peek (Ask job) h = (job, h)
+  a_peek (Get job) h = absurd h
+
+  pub a_file : (job : Job) → IsJobFor sub.Get now seed name rows job → (x : GetJob) × IsGetJob now seed rows x
+  a_file (Help error) h = absurd h
+  a_file (Interest job) h = absurd h
+  a_file (Data job) h = absurd h
+  a_file (Command job) h = absurd h
+  a_file (Tag job) h = absurd h
+  a_file (Show octets) h = absurd h
+  a_file (Explain job) h = absurd h
+  a_file (Send job) h = absurd h
+  a_file (Ask job) h = absurd h
+  a_file (Get job) h = (job, h)
 
   -- If the verb is `list`, the job of `route` or `strategy` is a request for a list. If the verb is
   -- not `list`, the job is a command that is given by its short form.
@@ -141,6 +165,7 @@ module _ (now : ℕ) (seed name : List ℕ) (rows : List Row) where
   a_list said (Explain job) h = absurd h
   a_list said (Send job) h = absurd h
   a_list said (Ask job) h = (job, h.1)
+  a_list said (Get job) h = absurd h
 
   pub a_short : is_list rows ≡ false → (job : Job) → IsListedJob now seed name rows job → (x : CommandJob) × IsShortJob now seed name rows x
   a_short other (Help error) h = absurd h
@@ -152,3 +177,4 @@ module _ (now : ℕ) (seed name : List ℕ) (rows : List Row) where
   a_short other (Explain job) h = absurd h
   a_short other (Send job) h = absurd h
   a_short other (Ask job) h = let apart = h.0 in absurd cc
+  a_short other (Get job) h = absurd h

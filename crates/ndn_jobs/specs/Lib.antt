@@ -7,5 +7,6 @@ pub mod Ask
 pub mod RepositoryForm
 pub mod Job
 pub mod Fault
+pub mod Get
 pub mod Command
 pub use Rattle.ndn_command_line.specs.CommandLine

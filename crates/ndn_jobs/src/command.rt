@@ -6,7 +6,9 @@ ghost use Rattle.ndn_jobs.specs.Options.{rows_in};
 ghost use Rattle.ndn_jobs.specs.Command.{reading_of, IsJob, IsJobFor, IsListedJob, IsNamedJob, Asks, IsRefusedLine};
 
 use crate::fault::{ToolFault, Usage};
-use crate::job::{AskJob, CommandJob, DataJob, ExplainJob, Job, LinkJob, SendJob, TagJob, is_list};
+use crate::job::{
+    AskJob, CommandJob, DataJob, ExplainJob, GetJob, Job, LinkJob, SendJob, TagJob, is_list,
+};
 use crate::nonce::seed_of;
 use crate::options::required_octets;
 use clap::error::ErrorKind;
@@ -124,6 +126,7 @@ fn job_for(
         Subcommand::Explain => Ok(Job::Explain(ExplainJob::read(alloc, options)?)),
         Subcommand::Send => Ok(Job::Send(SendJob::read(alloc, options)?)),
         Subcommand::Peek => Ok(Job::Ask(AskJob::read_peek(alloc, options, now, seed)?)),
+        Subcommand::Get => Ok(Job::Get(GetJob::read(alloc, options, now, seed)?)),
     }
 }
 

@@ -21,6 +21,9 @@ use ndn_requests::{NodeList, Parameters, View, action_name, list_name};
 use std::alloc::Global;
 use std::net::SocketAddr;
 
+/// How often the Interest of a segment is sent again if the command line does not say so.
+const USUAL_RETRIES: u64 = 15;
+
 /// What a command line asks for: the help, the version, or a subcommand with its options.
 #[derive(Drop)]
 pub enum Job {
@@ -43,6 +46,8 @@ pub enum Job {
     /// If a destination is given, send an Interest (for a list, one for each segment), and print
     /// what the answers contain. Otherwise print the first Interest.
     Ask(AskJob),
+    /// Fetch a file.
+    Get(GetJob),
 }
 
 /// Where a packet is sent, and the port from which it is sent.
@@ -179,6 +184,27 @@ pub struct AskJob {
     pub unverified: bool,
 }
 
+/// A file to fetch.
+#[derive(Drop)]
+pub struct GetJob {
+    /// The name of the file, with or without its version.
+    pub name: NameBuf,
+    /// The destination.
+    pub to: SocketAddr,
+    /// The source port. `None` means that the system chooses a port.
+    pub from: Option<u16>,
+    /// The path of the file to write. `None` means standard output.
+    pub output: Option<String>,
+    /// The InterestLifetime in milliseconds.
+    pub lifetime: Option<u64>,
+    /// How often the Interest of a segment is sent again.
+    pub retries: u64,
+    /// The path of the key file for checking signatures, if one is given.
+    pub keys: Option<String>,
+    /// What the Nonce of the first Interest is computed from.
+    pub nonce: [u8; 4],
+}
+
 impl Job {
     ghost use Rattle.std.specs.Prelude.{◌≡◌, option_map};
     ghost use Rattle.ndn_jobs.specs.Job.{key_file_of, retried, retries_of};
@@ -194,6 +220,7 @@ impl Job {
             Job::Tag(job) => Some(job.keys.as_str()),
             Job::Explain(job) => path_in(&job.keys),
             Job::Ask(job) => path_in(&job.keys),
+            Job::Get(job) => path_in(&job.keys),
             Job::Help(_) | Job::Show(_) | Job::Send(_) => None,
         }
     }
@@ -668,6 +695,37 @@ impl SendJob {
             to: options::required_endpoint(options, "to")?,
             from: options::port(options, "from")?,
             timeout: options::period(options, "timeout")?,
+        })
+    }
+}
+
+impl GetJob {
+    ghost use Rattle.ndn_jobs.specs.Value.{ReadsInMemory};
+    ghost use Rattle.ndn_jobs.specs.Options.{rows_in};
+    ghost use Rattle.ndn_jobs.specs.Get.{IsGetJob};
+
+    /// Returns the file that the options of the subcommand `get` describe. The Nonce is computed
+    /// from the time and `seed`.
+    pub fn read(
+        alloc: Global,
+        options: &ArgMatches<'_>,
+        now: u64,
+        seed: &[u8],
+    ) -> Result<GetJob, ToolFault>
+        ensures { ReadsInMemory (IsGetJob now seed.now (rows_in options.now)) result }
+    {
+        let to = options::required_endpoint(options, "to")?;
+        let from = options::port(options, "from")?;
+        let retries = options::number(options, "retries")?;
+        Ok(GetJob {
+            name: options::required_name(alloc, options, "URI")?,
+            to,
+            from,
+            output: options::path(alloc, options, "output")?,
+            lifetime: options::number(options, "lifetime")?,
+            retries: retries.unwrap_or(USUAL_RETRIES),
+            keys: options::path(alloc, options, "keys")?,
+            nonce: nonce_or(alloc, None, now, seed)?,
         })
     }
 }

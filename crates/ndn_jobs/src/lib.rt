@@ -14,7 +14,8 @@ mod value;
 pub use command::parse_words;
 pub use fault::{ToolFault, Usage, refusal};
 pub use job::{
-    AskJob, CommandJob, DataJob, ExplainJob, InterestJob, Job, KeyChoice, LinkJob, Ports, SendJob,
-    Stamp, TagJob,
+    AskJob, CommandJob, DataJob, ExplainJob, GetJob, InterestJob, Job, KeyChoice, LinkJob, Ports,
+    SendJob, Stamp, TagJob,
 };
+pub use nonce::nonce_after;
 pub use token::{Token, token_octets};
