@@ -40,30 +40,6 @@ pub trait LogSink: Drop {
         ensures { Appends (given self.old) (given self.new) lines.now };
 }
 
-/// Standard error, as a destination for the lines of a log.
-#[derive(Drop)]
-pub struct StandardError<'a, R> {
-    rt: &'a R,
-}
-
-impl<'a, R: Eprint> StandardError<'a, R> {
-    /// Returns the standard error of this program.
-    pub fn new(rt: &'a R) -> StandardError<'a, R> {
-        StandardError { rt }
-    }
-}
-
-impl<'a, R: Eprint> LogSink for StandardError<'a, R> {
-    // The lines that were written to standard error are not known to the contracts.
-    ghost given = { λ _. None };
-
-    fn take(&mut self, lines: &[u8]) {
-        if let Ok(text) = str::from_utf8(lines) {
-            let _printed = self.rt.eprint(text);
-        }
-    }
-}
-
 /// A log: the lines that are not yet written, and the counts that are not yet reported. If memory
 /// runs out for a line, the line is lost, and counted.
 #[derive(Drop)]

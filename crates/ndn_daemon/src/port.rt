@@ -6,9 +6,9 @@ ghost use Rattle.ndn_daemon.specs.UdpOptions.{ArePortsOf};
 ghost use Rattle.ndn_daemon.specs.Turn.{EndsTurns, HasNoTurns, StopsAt};
 
 use crate::disk_journal::DiskJournal;
-use crate::event_log::StandardError;
 use crate::fault::Fault;
 use crate::logged_ports::HasEndpoints;
+use crate::standard_error::StandardError;
 use crate::turns::{run, run_restored};
 use crate::udp_options::UdpOptions;
 use crate::watched_ports::RuleSource;
