@@ -2,6 +2,7 @@ pub mod Time
 pub mod Line
 pub mod Words
 pub mod Packet
+pub mod Command
 pub mod Entry
 pub mod Verdict
 pub mod Event

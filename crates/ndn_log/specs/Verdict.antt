@@ -39,12 +39,18 @@ abbrev pub unverified_words : List PlainRule → ℕ → List ℕ
 unverified_words rules rule =
     if is_unverified_at rules rule then codes ", unverified" else []
 
+-- the rule that allows a command, the name of the key in the command's KeyLocator, if the
+-- KeyLocator contains a name, and the status of the reply
+abbrev pub allowed_words : List PlainRule → Option PlainFrame → ℕ → ℕ → List ℕ
+allowed_words rules frame rule status =
+    codes "allowed by rule " ++ (id_of rules rule
+    ++ (key_words frame ++ (codes ", status " ++ decimal status)))
+
 -- The words for a verdict. Rules are shown by their ids. The words for a denial end with the name
 -- of the key in the packet's KeyLocator, if the KeyLocator contains a name.
 abbrev pub verdict_words : List PlainRule → Option PlainFrame → Verdict → List ℕ
 verdict_words rules frame Passed = codes "passed"
-verdict_words rules frame (Allowed rule status) =
-    codes "allowed by rule " ++ (id_of rules rule ++ (codes ", status " ++ decimal status))
+verdict_words rules frame (Allowed rule status) = allowed_words rules frame rule status
 verdict_words rules frame (DataAllowed rule stored) =
     codes "allowed by rule " ++ (id_of rules rule ++ unverified_words rules rule)
 verdict_words rules frame (Denied kind rule reason) =

@@ -3,6 +3,7 @@
 //! were left out because of limits.
 #![tactic(auto)]
 
+mod command;
 mod entry;
 mod event;
 mod limits;

@@ -77,7 +77,7 @@ fn put_reason(text: &mut Vec<u8>, reason: u64) -> Result<(), Memory>
 
 /// Appends at most the first 200 characters of a name's URI, and `..` if the URI is longer. If
 /// memory runs out, some of the text may be appended.
-fn put_name(text: &mut Vec<u8>, name: Name<'_>) -> Result<(), Memory>
+pub fn put_name(text: &mut Vec<u8>, name: Name<'_>) -> Result<(), Memory>
     ensures { OnOk result (text.new.items ≡ text.old.items ++ name_words (components name.entry)) }
 {
     let start = text.len();

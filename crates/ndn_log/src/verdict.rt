@@ -1,9 +1,10 @@
 //! The texts for verdicts.
 
-ghost use Rattle.std.specs.Prelude.{◌≡◌, ◌++◌, OnOk, option_map};
+ghost use Rattle.std.specs.Prelude.{◌≡◌, ◌++◌, OnOk, codes, option_map};
+ghost use Rattle.std.specs.Fmt.{decimal};
 ghost use Rattle.ndn_packets.specs.View.{plain_frame};
 ghost use Rattle.forwarder.specs.Verdict.{reason_of, verdict_of};
-ghost use Rattle.ndn_log.specs.Verdict.{denial_words, drop_words, dropped_words, outcome_words, unverified_words, verdict_words};
+ghost use Rattle.ndn_log.specs.Verdict.{allowed_words, denial_words, drop_words, dropped_words, outcome_words, unverified_words, verdict_words};
 
 use crate::packet::put_key;
 use crate::words::{put_octets, put_word};
@@ -62,14 +63,7 @@ fn put_verdict(
 {
     match verdict {
         Verdict::Passed => put_word(text, "passed"),
-        Verdict::Allowed(rule, status) => {
-            write!(
-                text,
-                "allowed by rule {}, status {status}",
-                id_of(rules, rule)
-            )
-            .map_err(|_| Memory)
-        }
+        Verdict::Allowed(rule, status) => put_allowed(text, rules, frame, rule, status),
         Verdict::DataAllowed { rule, .. } => {
             write!(
                 text,
@@ -92,6 +86,31 @@ fn put_verdict(
             put_drop(text, reason)
         }
     }
+}
+
+/// Appends the rule that allows a command, the name in the command's KeyLocator, if there is such a
+/// name, and the status of the reply.
+fn put_allowed(
+    text: &mut Vec<u8>,
+    rules: &Rules,
+    frame: &Option<Frame<'_>>,
+    rule: RuleNo,
+    status: u16,
+) -> Result<(), Memory>
+    ensures { OnOk result (text.new.items ≡ text.old.items ++ allowed_words rules.now
+        (option_map plain_frame frame.now) rule.0 status) }
+{
+    put_word(text, "allowed by rule ")?;
+    put_word(text, id_of(rules, rule))?;
+    put_key(text, frame)?;
+    put_status(text, status)
+}
+
+fn put_status(text: &mut Vec<u8>, status: u16) -> Result<(), Memory>
+    ensures { OnOk result (text.new.items ≡ text.old.items
+        ++ (codes ", status " ++ decimal status)) }
+{
+    write!(text, ", status {status}").map_err(|_| Memory)
 }
 
 /// Returns the words after the rule that allows a Data: empty words, unless the rule does not
