@@ -174,7 +174,7 @@ fn event_of(now: u64, comes: Comes) -> Option<(LoggedEvent<'static>, Verdict)> {
                 scope: Scope::Far,
                 now,
             };
-            Some((up, Verdict::Dropped(DropReason::FaceOpen)))
+            Some((up, Verdict::Dropped(DropReason::FacesFull)))
         }
         Comes::Tick => Some((Event::Tick { now }, Verdict::Passed)),
     }
@@ -240,7 +240,7 @@ const LINES: [(&str, usize, usize); 6] = [
     (" packet: denied", 4, 4),
     ("send to face 5 failed: ", 3, 4),
     ("allowed by rule ", 12, 12),
-    ("face 5 opens, far: dropped, FaceOpen", 0, 1),
+    ("face 5 opens, far: dropped, FacesFull", 0, 1),
     ("2026-11-27T22:10:01.000Z face 5: 2 more lines\n", 1, 0),
 ];
 

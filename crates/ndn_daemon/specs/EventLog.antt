@@ -22,6 +22,11 @@ LogsOrLoses old new moment words lost loses =
     (IsLogged old new moment words × (loses ≡ lost))
     ⊎ ((new ≡ old) × (loses ≡ one_more lost))
 
+-- A sink was given a line with this time and these words, or nothing.
+abbrev pub Tells : Option (List ℕ) → Option (List ℕ) → ℕ → List ℕ → Type 0
+Tells given gives moment words =
+    (line : List ℕ) × Appends given gives line × (IsLogged [] line moment words ⊎ (line ≡ []))
+
 -- The number, after this event, of closed faces whose closing the log left out and has not yet
 -- reported. `count` is this number before the event. If `left_out` is true, the log leaves out the
 -- event.

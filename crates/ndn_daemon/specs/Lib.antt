@@ -3,6 +3,7 @@ pub mod EventLog
 pub mod Watched
 pub mod WatchedLaws
 pub mod LoggedPorts
+pub mod Start
 pub mod Fault
 pub mod Files
 pub mod Endpoint

@@ -1,5 +1,5 @@
 -- What a log shows of an arrival and of its outcome.
-use Rattle.std.specs.Prelude.{◌≡◌, ℕ, Bool, List, take, Option, None, Some, Result, Ok, Err}
+use Rattle.std.specs.Prelude.{◌≡◌, ℕ, Bool, List, max, take, Option, None, Some, Result, Ok, Err}
 use Rattle.ndn_tlv.specs.declared.memory.Memory.{Memory}
 use Rattle.forwarder.specs.declared.verdict.Verdict.{Verdict}
 use Rattle.forwarder.specs.declared.event.Event.{Event}
@@ -18,12 +18,14 @@ use Rattle.ndn_daemon.specs.EventLog.{NotesEvent}
 abbrev pub Seen : Type 0
 Seen = Event ℕ (Unit {0})
 
-abbrev pub seen_in : Arrival → Seen
-seen_in (Packet face now len) = Packet face now len
-seen_in (FaceUp face scope now) = FaceUp face scope now
-seen_in (FaceDown face now) = FaceDown face now
-seen_in (Tick now) = Tick now
-seen_in (NewRules renewal now) = NewRules tt now
+-- The arrival as a log shows it. Its time is not before the time `start` of the node's start: the
+-- first events of a restart have the time of the journal's last line.
+abbrev pub seen_in : ℕ → Arrival → Seen
+seen_in start (Packet face now len) = Packet face (max now start) len
+seen_in start (FaceUp face scope now) = FaceUp face scope (max now start)
+seen_in start (FaceDown face now) = FaceDown face (max now start)
+seen_in start (Tick now) = Tick (max now start)
+seen_in start (NewRules renewal now) = NewRules tt (max now start)
 
 -- `shown` is the arrival `seen`; the octets of a packet are the first `len` octets of the buffer,
 -- or all octets of the buffer if it has fewer than `len` octets

@@ -26,7 +26,8 @@ pub enum Request {
     Shorten(ShorteningOptions),
 }
 
-const VERSION: &str = "0.1.0";
+/// The version of the program.
+pub const VERSION: &str = "0.1.0";
 
 const ABOUT: &str =
     "A Named Data Networking node: it forwards Interests by routes and strategies, and it caches and

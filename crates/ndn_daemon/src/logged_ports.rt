@@ -1,5 +1,5 @@
 //! Ports with a log of arrivals and their outcomes.
-ghost use Rattle.std.specs.Prelude.{◌≡◌, ◌∷◌, [], None, Some, IfSome, length};
+ghost use Rattle.std.specs.Prelude.{◌≡◌, ◌≤◌, ◌∷◌, [], None, Some, IfSome, length};
 ghost use Rattle.node_ports.specs.Ports.{LiesWithin, arrived};
 ghost use Rattle.node_ports.specs.Step.{Got};
 ghost use Rattle.ndn_daemon.specs.EventLog.{so_far};
@@ -77,8 +77,10 @@ type Seen = Event<usize, ()>;
 pub struct LoggedPorts<P: Ports + HasEndpoints + Drop, S: LogSink> {
     ports: P,
     log: EventLog<S>,
+    // The time of the node's start. No line has an earlier time.
+    start: u64,
     // `seen` holds the last arrival until `note` is called for it. `moment` is the time of the last
-    // arrival, or 0 before the first arrival.
+    // arrival, or the time of the start before the first arrival.
     seen: Option<Seen>,
     moment: u64,
     // `opened` is the face of the last `FaceUp` arrival, and `endpoint` is the endpoint of that
@@ -88,15 +90,18 @@ pub struct LoggedPorts<P: Ports + HasEndpoints + Drop, S: LogSink> {
 }
 
 impl<P: Ports + HasEndpoints + Drop, S: LogSink> LoggedPorts<P, S> {
-    /// Returns these ports with this log.
-    pub fn new(ports: P, log: EventLog<S>) -> LoggedPorts<P, S>
-        ensures { result.ports ≡ ports }
+    /// Returns these ports with this log. `start` is the time of the node's start in milliseconds
+    /// since 1970. A line about an earlier arrival has this time.
+    pub fn new(ports: P, log: EventLog<S>, start: u64) -> LoggedPorts<P, S>
+        ensures ports { result.ports ≡ ports }
+        ensures times { (result.start ≡ start) × (result.moment ≡ start) }
     {
         LoggedPorts {
             ports,
             log,
+            start,
             seen: None,
-            moment: 0,
+            moment: start,
             opened: 0,
             endpoint: None,
         }
@@ -116,10 +121,12 @@ impl<P: Ports + HasEndpoints + Drop, S: LogSink> LoggedPorts<P, S> {
     /// Records an arrival.
     fn see(&mut self, arrival: &Arrival)
         ensures ports { self.new.ports ≡ self.old.ports }
-        ensures seen { self.new.seen ≡ Some (seen_in arrival.now) }
+        ensures seen { self.new.seen ≡ Some (seen_in self.old.start arrival.now) }
+        ensures times { (self.new.start ≡ self.old.start)
+            × (self.old.start ≤ self.new.moment) }
     {
-        self.seen = Some(seen_in(arrival));
-        self.moment = arrival.moment();
+        self.seen = Some(seen_in(arrival, self.start));
+        self.moment = arrival.moment().max(self.start);
         if let Event::FaceUp { face, .. } = arrival {
             self.opened = *face;
             self.endpoint = self.ports.endpoint_of(*face);
@@ -249,28 +256,31 @@ impl<P: Ports + HasEndpoints + Drop, S: LogSink> Ports for LoggedPorts<P, S> {
     }
 }
 
-fn seen_in(arrival: &Arrival) -> Seen
-    ensures { result ≡ seen_in arrival.now }
+/// Returns the arrival as a log shows it, at the time `start` if it arrived before.
+fn seen_in(arrival: &Arrival, start: u64) -> Seen
+    ensures { result ≡ seen_in start arrival.now }
 {
     match arrival {
         Event::Packet { face, now, octets } => Event::Packet {
             face: *face,
-            now: *now,
+            now: (*now).max(start),
             octets: *octets,
         },
         Event::FaceUp { face, scope, now } => Event::FaceUp {
             face: *face,
             scope: *scope,
-            now: *now,
+            now: (*now).max(start),
         },
         Event::FaceDown { face, now } => Event::FaceDown {
             face: *face,
-            now: *now,
+            now: (*now).max(start),
         },
-        Event::Tick { now } => Event::Tick { now: *now },
+        Event::Tick { now } => Event::Tick {
+            now: (*now).max(start),
+        },
         Event::NewRules { now, .. } => Event::NewRules {
             rules: (),
-            now: *now,
+            now: (*now).max(start),
         },
     }
 }

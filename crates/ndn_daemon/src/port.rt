@@ -3,8 +3,10 @@ ghost use Rattle.std.specs.Prelude.{◌≡◌, ◌≢◌, ◌≤◌, ◌⊎◌, 
 ghost use Rattle.forwarder.specs.Parts.{parts_fault};
 ghost use Rattle.ndn_daemon.specs.Program.{FailsToRestore, RunsAfresh, RunsRestored};
 ghost use Rattle.ndn_daemon.specs.UdpOptions.{ArePortsOf};
+ghost use Rattle.ndn_daemon.specs.Start.{IsStartOf};
 ghost use Rattle.ndn_daemon.specs.Turn.{EndsTurns, HasNoTurns, StopsAt};
 
+use crate::command::VERSION;
 use crate::disk_journal::DiskJournal;
 use crate::fault::Fault;
 use crate::logged_ports::HasEndpoints;
@@ -12,6 +14,7 @@ use crate::standard_error::StandardError;
 use crate::turns::{run, run_restored};
 use crate::udp_options::UdpOptions;
 use crate::watched_ports::RuleSource;
+use ndn_log::Start;
 use node_core::{MAX_FACES, Node, NodeParts, RunFault};
 use node_ports::{Moments, Ports, UdpPorts};
 use std::fs::File;
@@ -30,7 +33,7 @@ pub fn run_on_port<
     R: AllocGlobal + Eprint + Files<File = File> + Net + Print,
     M: Moments,
     S: RuleSource,
->(rt: &R, parts: NodeParts, moments: M, source: S, options: &UdpOptions) -> Result<(), Fault>
+>(rt: &R, parts: NodeParts, mut moments: M, source: S, options: &UdpOptions) -> Result<(), Fault>
     requires { length options.now.peers.items ≤ MAX_FACES }
     ensures parts { MatchOption (parts_fault parts.repo parts.cache)
         (options.now.journal ≡ None → IfErr result (StopsAt options.now.listen))
@@ -41,11 +44,28 @@ pub fn run_on_port<
     ensures none { options.now.turns ≡ 0 → options.now.journal ≡ None
         → parts_fault parts.repo parts.cache ≡ None → IfErr result (HasNoTurns options.now.listen) }
 {
+    let start = start_of(&parts, options, moments.now());
     let mut node = match Node::new(rt.alloc(), parts) {
         Ok(node) => node,
         Err(fault) => return Err(Fault::Script(RunFault::Node(fault))),
     };
-    take_bound(rt, &mut node, moments, source, options)
+    take_bound(rt, &mut node, moments, source, options, start)
+}
+
+/// Returns what the log tells of a start at this time.
+fn start_of(parts: &NodeParts, options: &UdpOptions, moment: u64) -> Start
+    ensures { IsStartOf parts.now options.now moment result }
+{
+    Start {
+        moment,
+        version: VERSION,
+        endpoint: options.listen,
+        peers: options.peers.len() as u64,
+        rules: parts.rules.len() as u64,
+        keys: parts.keys.len() as u64,
+        cache: parts.cache as u64,
+        replayed: None,
+    }
 }
 
 /// Binds the ports that the options describe, and lets a node take the requested turns.
@@ -53,7 +73,14 @@ fn take_bound<
     R: AllocGlobal + Eprint + Files<File = File> + Net + Print,
     M: Moments,
     S: RuleSource,
->(rt: &R, node: &mut Node, moments: M, source: S, options: &UdpOptions) -> Result<(), Fault>
+>(
+    rt: &R,
+    node: &mut Node,
+    moments: M,
+    source: S,
+    options: &UdpOptions,
+    start: Start,
+) -> Result<(), Fault>
     requires { length options.now.peers.items ≤ MAX_FACES }
     ensures fault { options.now.journal ≡ None → IfErr result (StopsAt options.now.listen) }
     ensures none { options.now.turns ≡ 0 → options.now.journal ≡ None
@@ -64,7 +91,7 @@ fn take_bound<
             endpoint: options.listen,
         });
     };
-    take_as_begun(rt, node, ports, source, options)
+    take_as_begun(rt, node, ports, source, options, start)
 }
 
 /// Lets a node take the requested turns, with a journal if the options name one. What the writer,
@@ -73,7 +100,14 @@ fn take_as_begun<
     R: AllocGlobal + Eprint + Files<File = File> + Print,
     P: Ports + HasEndpoints + Drop,
     S: RuleSource,
->(rt: &R, node: &mut Node, ports: P, source: S, options: &UdpOptions) -> Result<(), Fault>
+>(
+    rt: &R,
+    node: &mut Node,
+    ports: P,
+    source: S,
+    options: &UdpOptions,
+    start: Start,
+) -> Result<(), Fault>
     ensures ran { options.now.journal ≡ None → (after : P) × (left : S)
         × (held holds : Option (List ℕ)) × RunsAfresh P.does S.renews (P.has_journal ports)
         options.now.quiet options.now.turns ports after source left node.old node.new held holds
@@ -93,11 +127,11 @@ fn take_as_begun<
         Some(path) => {
             let journal = DiskJournal::open(rt, path)?;
             let (ran, _journal) = run_restored(
-                alloc, node, journal, ports, source, log, writer, options,
+                alloc, node, journal, ports, source, log, writer, options, start,
             );
             ran.done
         }
-        None => run(alloc, node, ports, source, log, writer, options).done,
+        None => run(alloc, node, ports, source, log, writer, options, start).done,
     }
 }
 

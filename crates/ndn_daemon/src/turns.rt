@@ -8,6 +8,8 @@ ghost use Rattle.node_ports.specs.Renewal.{RenewalValue};
 ghost use Rattle.node_ports.specs.Serving.{IsTurn};
 ghost use Rattle.node_ports.specs.Step.{PortStep};
 ghost use Rattle.node_core.specs.Script.Ending.{AppendsFront};
+ghost use Rattle.ndn_log.specs.Notes.{start_words};
+ghost use Rattle.ndn_daemon.specs.EventLog.{Tells};
 ghost use Rattle.ndn_daemon.specs.Journal.{ReplaysJournal};
 ghost use Rattle.ndn_daemon.specs.Program.{FailsToRestore, RunsAfresh, RunsRestored};
 ghost use Rattle.ndn_daemon.specs.Restart.{IsRestart, closing, closings, is_of_peer};
@@ -20,6 +22,7 @@ use crate::stored_journal::StoredJournal;
 use crate::udp_options::{LogLevel, UdpOptions};
 use crate::watched_ports::{RuleSource, WatchedPorts};
 use info_rules::Rules;
+use ndn_log::{Start, put_start};
 use node_core::{
     Event, MAX_FACES, Node, Outbox, RunFault, Scope, put_all, put_refused, put_sends, put_verdict,
 };
@@ -45,15 +48,17 @@ pub struct Ran<P: Ports + Drop, S: RuleSource, L: LogSink> {
 
 /// Lets a node take the requested turns at its ports. If `source` has new rules and keys when it is
 /// checked, they replace the node's rules and keys. The answers are written to `writer`, unless the
-/// node is quiet. The log, if the options ask for one, is written to `log`.
+/// node is quiet. The log, if the options ask for one, is written to `log`; it begins with the line
+/// of the start.
 pub fn run<P: Ports + HasEndpoints + Drop, S: RuleSource, L: LogSink, W: Write>(
     alloc: Global,
     node: &mut Node,
     ports: P,
     source: S,
-    log: L,
+    mut log: L,
     writer: &mut W,
     options: &UdpOptions,
+    start: Start,
 ) -> Ran<P, S, L>
     ensures ran { RunsAfresh P.does S.renews (P.has_journal ports) options.now.quiet
         options.now.turns ports result.ports source result.source node.old node.new
@@ -61,8 +66,9 @@ pub fn run<P: Ports + HasEndpoints + Drop, S: RuleSource, L: LogSink, W: Write>(
     ensures fault { IfErr result.done EndsTurns }
     ensures none { options.now.turns ≡ 0 → IsOk result.done }
 {
+    report_start(alloc, &mut log, options.log, &start);
     let watched = WatchedPorts::new(ports, source);
-    let (watched, log, done) = take_logged(alloc, node, watched, log, writer, options);
+    let (watched, log, done) = take_logged(alloc, node, watched, log, writer, options, start);
     let (ports, source) = watched.into_parts();
     Ran {
         ports,
@@ -92,6 +98,7 @@ pub fn run_restored<
     mut log: L,
     writer: &mut W,
     options: &UdpOptions,
+    start: Start,
 ) -> (Ran<P, S, L>, J)
     ensures { ((RunsRestored P.does S.renews S.present options.now.quiet options.now.turns
         (length options.now.peers.items) options.now.local ports result.0.ports source
@@ -102,7 +109,15 @@ pub fn run_restored<
         (J.synced result.1) node.old node.new (W.contents writer.old) (W.contents writer.new)
         result.0.done) }
 {
-    let first = match restart_of(alloc, node, &mut journal, &mut source, &mut log, options) {
+    let first = match restart_of(
+        alloc,
+        node,
+        &mut journal,
+        &mut source,
+        &mut log,
+        options,
+        start,
+    ) {
         Ok(first) => first,
         Err(fault) => {
             let ran = Ran {
@@ -116,7 +131,7 @@ pub fn run_restored<
     };
     let ports = RestartedPorts::new(first, WatchedPorts::new(ports, source));
     let ports = JournalledPorts::new(alloc, ports, journal);
-    let (ports, log, done) = take_logged(alloc, node, ports, log, writer, options);
+    let (ports, log, done) = take_logged(alloc, node, ports, log, writer, options, start);
     let (ports, journal) = ports.into_parts();
     let (ports, source) = ports.into_ports().into_parts();
     let ran = Ran {
@@ -128,7 +143,8 @@ pub fn run_restored<
     (ran, journal)
 }
 
-/// Replays the events of a journal on a node, and returns the first events after the restart.
+/// Replays the events of a journal on a node, and returns the first events after the restart. The
+/// log, if the options ask for one, gets the line of the start.
 fn restart_of<J: StoredJournal, S: RuleSource, L: LogSink>(
     alloc: Global,
     node: &mut Node,
@@ -136,6 +152,7 @@ fn restart_of<J: StoredJournal, S: RuleSource, L: LogSink>(
     source: &mut S,
     log: &mut L,
     options: &UdpOptions,
+    start: Start,
 ) -> Result<Vec<OwnedArrival>, Fault>
     ensures replayed { IfOk result (λ first. (done : Replayed) × (renewal : RenewalValue)
         × ReplaysJournal (J.synced journal.old) (J.synced journal.new) node.old node.new done
@@ -162,7 +179,25 @@ fn restart_of<J: StoredJournal, S: RuleSource, L: LogSink>(
         )?;
     }
     put_closings(&mut first, node, options)?;
+    let start = Start {
+        replayed: Some(replayed.events),
+        ..start
+    };
+    report_start(alloc, log, options.log, &start);
     Ok(first)
+}
+
+/// Reports the start of the node, unless the log shows nothing or memory runs out.
+fn report_start<L: LogSink>(alloc: Global, log: &mut L, level: LogLevel, start: &Start)
+    ensures { Tells (L.given log.old) (L.given log.new) start.now.moment (start_words start.now) }
+{
+    if level == LogLevel::None {
+        return;
+    }
+    let mut line = Vec::new(alloc);
+    if put_start(alloc, &mut line, start).is_ok() {
+        log.take(&line);
+    }
 }
 
 /// Reports that a crash cut the last line of the journal short to `cut` octets, and that this line
@@ -238,7 +273,7 @@ fn is_of_peer(face: u64, scope: Scope, options: &UdpOptions) -> bool
 }
 
 /// Lets a node take the requested turns, with a log if the options ask for one. Returns the ports,
-/// the destination of the log, and how the turns ended.
+/// the destination of the log, and how the turns ended. No line has a time before the start.
 fn take_logged<P: Ports + HasEndpoints + Drop, L: LogSink, W: Write>(
     alloc: Global,
     node: &mut Node,
@@ -246,6 +281,7 @@ fn take_logged<P: Ports + HasEndpoints + Drop, L: LogSink, W: Write>(
     log: L,
     writer: &mut W,
     options: &UdpOptions,
+    start: Start,
 ) -> (P, L, Result<(), Fault>)
     ensures ended { (steps : List PortStep) × P.does ports steps result.0
         × EndsAs options.now.quiet (P.has_journal ports) node.old node.new options.now.turns steps
@@ -258,7 +294,7 @@ fn take_logged<P: Ports + HasEndpoints + Drop, L: LogSink, W: Write>(
         return (ports, log, done);
     }
     let log = EventLog::new(alloc, log, options.log == LogLevel::All);
-    let mut logged = LoggedPorts::new(ports, log);
+    let mut logged = LoggedPorts::new(ports, log, start.moment);
     let done = take_as_asked(alloc, node, &mut logged, writer, options);
     let (ports, log) = logged.finish();
     (ports, log, done)

@@ -1,11 +1,41 @@
--- The texts of log lines about failed sends, closed faces, datagrams from endpoints that are not
--- peers, and lines that were left out.
-use Rattle.std.specs.Prelude.{ℕ, List, [], ◌∷◌, ◌++◌, codes, flat_map, Option, None, ◌==◌, if◌then◌else◌}
+-- The texts of log lines about a start, failed sends, closed faces, datagrams from endpoints that
+-- are not peers, and lines that were left out.
+use Rattle.std.specs.Prelude.{ℕ, List, [], ◌∷◌, ◌++◌, codes, flat_map, Option, None, Some, ◌==◌, if◌then◌else◌}
+use Rattle.std.specs.Fmt.{decimal}
+use Rattle.std.specs.Net.Text.{socket_text}
 use Rattle.std.specs.declared.net.socket_addr.SocketAddr.{SocketAddr}
 use Rattle.ndn_log.specs.declared.limits.ShownLine.{ShownLine}
 use Rattle.ndn_log.specs.declared.limits.TheConstants.{SECOND_LINES}
+use Rattle.ndn_log.specs.declared.notes.Start.{Start}
 use Rattle.ndn_log.specs.Limits.{LimitsState}
 use Rattle.ndn_log.specs.Words.{counted, face_words, octets_words}
+
+abbrev pub listens_words : Start → List ℕ
+listens_words start =
+    codes "started, version " ++ (start.version.now ++ (codes ", listens on "
+    ++ (socket_text start.endpoint ++ codes ": ")))
+
+-- the numbers of peers, rules and keys
+abbrev pub parts_words : Start → List ℕ
+parts_words start =
+    counted start.peers (codes "peer") ++ (codes ", " ++ (counted start.rules (codes "rule")
+    ++ (codes ", " ++ counted start.keys (codes "key"))))
+
+abbrev pub cache_words : ℕ → List ℕ
+cache_words capacity = codes ", cache of " ++ (decimal capacity ++ codes " Data")
+
+abbrev pub lines_words : ℕ → List ℕ
+lines_words count = codes ", replayed " ++ counted count (codes "journal line")
+
+-- the number of lines of the journal that were replayed, if there is a journal
+abbrev pub replayed_words : Option ℕ → List ℕ
+replayed_words None = []
+replayed_words (Some count) = lines_words count
+
+abbrev pub start_words : Start → List ℕ
+start_words start =
+    listens_words start ++ (parts_words start
+    ++ (cache_words start.cache ++ replayed_words start.replayed))
 
 abbrev pub failed_send_words : ℕ → Option SocketAddr → List ℕ → List ℕ
 failed_send_words face endpoint octets =

@@ -14,20 +14,21 @@ use Rattle.forwarder.specs.Verdict.{DropReason, NoFace, Malformed, Idle, HopLimi
 use Rattle.ndn_log.specs.Packet.{key_words}
 use Rattle.ndn_log.specs.Words.{octets_words}
 
--- the reason why an event was dropped; malformed octets are shown with their fault
+-- The reason why an event was dropped. Malformed octets are shown with their fault. A face that is
+-- open already, as that of a peer after a restart, is not called dropped.
 abbrev pub drop_words : DropReason → List ℕ
-drop_words NoFace = codes "NoFace"
-drop_words (Malformed fault) = codes "Malformed " ++ packet_name fault
-drop_words Idle = codes "Idle"
-drop_words HopLimit = codes "HopLimit"
-drop_words Scope = codes "Scope"
-drop_words Loop = codes "Loop"
-drop_words PitFull = codes "PitFull"
-drop_words NoPending = codes "NoPending"
-drop_words NoSegment = codes "NoSegment"
-drop_words BadFace = codes "BadFace"
-drop_words FaceOpen = codes "FaceOpen"
-drop_words FacesFull = codes "FacesFull"
+drop_words NoFace = codes "dropped, NoFace"
+drop_words (Malformed fault) = codes "dropped, Malformed " ++ packet_name fault
+drop_words Idle = codes "dropped, Idle"
+drop_words HopLimit = codes "dropped, HopLimit"
+drop_words Scope = codes "dropped, Scope"
+drop_words Loop = codes "dropped, Loop"
+drop_words PitFull = codes "dropped, PitFull"
+drop_words NoPending = codes "dropped, NoPending"
+drop_words NoSegment = codes "dropped, NoSegment"
+drop_words BadFace = codes "dropped, BadFace"
+drop_words FaceOpen = codes "open already"
+drop_words FacesFull = codes "dropped, FacesFull"
 
 -- the rule that denies a packet, and the reason of the denial
 abbrev pub denial_words : List PlainRule → ℕ → Reason → List ℕ
@@ -56,7 +57,7 @@ verdict_words rules frame (DataAllowed rule stored) =
 verdict_words rules frame (Denied kind rule reason) =
     denial_words rules rule reason ++ key_words frame
 verdict_words rules frame (NoRule kind) = codes "denied, no rule applies" ++ key_words frame
-verdict_words rules frame (Dropped why) = codes "dropped, " ++ drop_words why
+verdict_words rules frame (Dropped why) = drop_words why
 
 abbrev pub outcome_words : List PlainRule → Option PlainFrame → Result code.Verdict Memory → List ℕ
 outcome_words rules frame (Ok verdict) = verdict_words rules frame (verdict_of verdict)

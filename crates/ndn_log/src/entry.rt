@@ -1,9 +1,9 @@
 //! Events as a log shows them.
 
 ghost use Rattle.std.specs.Prelude.{◌≡◌};
-ghost use Rattle.ndn_log.specs.Entry.{is_plain, is_plain_outcome, is_refusal, octets_in, refused_on};
+ghost use Rattle.ndn_log.specs.Entry.{is_open_already, is_plain, is_plain_outcome, is_refusal, octets_in, refused_on};
 
-use forwarder::{Event, Verdict};
+use forwarder::{DropReason, Event, Verdict};
 use ndn_tlv::Memory;
 use std::net::SocketAddr;
 
@@ -19,7 +19,8 @@ pub struct Entry<'a> {
 }
 
 /// Returns whether the event is plain: it does not bring new rules, and its verdict is `Passed` or
-/// `DataAllowed`. A log that does not show all events leaves out plain events.
+/// `DataAllowed`, or says that the face is open already. A log that does not show all events leaves
+/// out plain events.
 pub fn is_plain(entry: &Entry<'_>, outcome: &Result<Verdict, Memory>) -> bool
     ensures { result ≡ is_plain entry.now.event outcome.now }
 {
@@ -35,8 +36,17 @@ fn is_plain_outcome(outcome: &Result<Verdict, Memory>) -> bool
     match outcome {
         Ok(Verdict::Passed) => true,
         Ok(Verdict::DataAllowed { .. }) => true,
+        Ok(Verdict::Dropped(reason)) => is_open_already(*reason),
         _ => false,
     }
+}
+
+/// Returns whether the reason is that a face is open already. The face of a peer is open already if
+/// a restart has left it open.
+fn is_open_already(reason: DropReason) -> bool
+    ensures { result ≡ is_open_already reason }
+{
+    matches!(reason, DropReason::FaceOpen)
 }
 
 /// Returns the face of a packet that was denied or dropped, or the face that could not open, or
@@ -58,7 +68,7 @@ fn is_refusal(outcome: &Result<Verdict, Memory>) -> bool
     match outcome {
         Ok(Verdict::Denied(..)) => true,
         Ok(Verdict::NoRule(_)) => true,
-        Ok(Verdict::Dropped(_)) => true,
+        Ok(Verdict::Dropped(reason)) => !is_open_already(*reason),
         _ => false,
     }
 }

@@ -81,10 +81,7 @@ fn put_verdict(
             put_word(text, "denied, no rule applies")?;
             put_key(text, frame)
         }
-        Verdict::Dropped(reason) => {
-            put_word(text, "dropped, ")?;
-            put_drop(text, reason)
-        }
+        Verdict::Dropped(reason) => put_drop(text, reason),
     }
 }
 
@@ -142,19 +139,19 @@ fn put_drop(text: &mut Vec<u8>, reason: DropReason) -> Result<(), Memory>
     ensures { OnOk result (text.new.items ≡ text.old.items ++ drop_words (reason_of reason)) }
 {
     match reason {
-        DropReason::NoFace => put_word(text, "NoFace"),
+        DropReason::NoFace => put_word(text, "dropped, NoFace"),
         DropReason::Malformed(fault) => {
-            write!(text, "Malformed {}", fault.name()).map_err(|_| Memory)
+            write!(text, "dropped, Malformed {}", fault.name()).map_err(|_| Memory)
         }
-        DropReason::Idle => put_word(text, "Idle"),
-        DropReason::HopLimit => put_word(text, "HopLimit"),
-        DropReason::Scope => put_word(text, "Scope"),
-        DropReason::Loop => put_word(text, "Loop"),
-        DropReason::PitFull => put_word(text, "PitFull"),
-        DropReason::NoPending => put_word(text, "NoPending"),
-        DropReason::NoSegment => put_word(text, "NoSegment"),
-        DropReason::BadFace => put_word(text, "BadFace"),
-        DropReason::FaceOpen => put_word(text, "FaceOpen"),
-        DropReason::FacesFull => put_word(text, "FacesFull"),
+        DropReason::Idle => put_word(text, "dropped, Idle"),
+        DropReason::HopLimit => put_word(text, "dropped, HopLimit"),
+        DropReason::Scope => put_word(text, "dropped, Scope"),
+        DropReason::Loop => put_word(text, "dropped, Loop"),
+        DropReason::PitFull => put_word(text, "dropped, PitFull"),
+        DropReason::NoPending => put_word(text, "dropped, NoPending"),
+        DropReason::NoSegment => put_word(text, "dropped, NoSegment"),
+        DropReason::BadFace => put_word(text, "dropped, BadFace"),
+        DropReason::FaceOpen => put_word(text, "open already"),
+        DropReason::FacesFull => put_word(text, "dropped, FacesFull"),
     }
 }
