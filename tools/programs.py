@@ -6,6 +6,7 @@ ended: `passed` and what was done, or `skipped` and why this machine cannot run 
 
 import hashlib
 import os
+import re
 import select
 import shlex
 import signal
@@ -333,6 +334,13 @@ def write_files(folder, rules, keys):
             out.write(text)
         paths.append(path)
     return ["--rules", paths[0], "--keys", paths[1]]
+
+
+def without_time(line):
+    """Returns a line that a running node writes to standard error, without the time at its beginning. Without such a time,
+    returns the text `no time: ` and the line."""
+    found = re.match(r"\d{4}-\d\d-\d\dT\d\d:\d\d:\d\d\.\d{3}Z ", line)
+    return line[found.end() :] if found else f"no time: {line}"
 
 
 def report(run):

@@ -199,7 +199,7 @@ fn turns_with_a_journal(rt: HostRuntime) {
     let before = "rules 0 - -\nup 2 far 1000\nup 3";
     let after = "rules 0 - -\nup 2 far 1000\ndown 2 1000\nup 1 local 1000\n";
     let cut =
-        "journal: the last line was cut short and is taken off: 4 octets\n";
+        "1970-01-01T00:00:02.000Z journal: the last line was cut short and is taken off: 4 octets\n";
     assert!(rt; journals(rt.alloc(), before, after, LogLevel::None, cut) == Some(true));
     let before = "rules 0 - -\nup 1 local 5\nup 2 far 9\n";
     let after = "rules 0 - -\nup 1 local 5\nup 2 far 9\ndown 2 9\n";

@@ -5,6 +5,7 @@ pub mod WatchedLaws
 pub mod LoggedPorts
 pub mod Start
 pub mod Fault
+pub mod FaultLine
 pub mod Files
 pub mod Endpoint
 pub mod Options

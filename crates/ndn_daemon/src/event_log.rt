@@ -6,12 +6,12 @@ ghost use Rattle.node_ports.specs.Step.{one_more};
 ghost use Rattle.ndn_log.specs.Event.{event_words};
 ghost use Rattle.ndn_log.specs.Notes.{closed_words, failed_send_words, lost_words, stranger_words};
 ghost use Rattle.ndn_log.specs.Limits.{LimitsState, begun};
-ghost use Rattle.ndn_daemon.specs.EventLog.{Begins, LogsOrLoses, NotesEvent, SaysCount, TellsLeftOut, closed_with, is_held, is_left_out, limited_event, limited_send, limits_with, shows, so_far};
+ghost use Rattle.ndn_daemon.specs.EventLog.{Begins, LogsOrLoses, NotesEvent, SaysCount, Tells, TellsLeftOut, closed_with, is_held, is_left_out, limited_event, limited_send, limits_with, shows, so_far};
 
 use info_rules::Rules;
 use ndn_log::{
     Entry, LineLimits, LoggedEvent, is_plain, put_closed, put_event, put_failed_send, put_left_out,
-    put_lost, put_strangers, refused_on,
+    put_line, put_lost, put_strangers, refused_on,
 };
 use ndn_tlv::Memory;
 use node_core::{Event, Verdict};
@@ -38,6 +38,16 @@ pub trait LogSink: Drop {
     /// Writes whole lines. If they cannot be written, they are lost, and no fault is reported.
     fn take(&mut self, lines: &[u8])
         ensures { Appends (given self.old) (given self.new) lines.now };
+}
+
+/// Gives a line with this time and these words to a sink, unless memory runs out.
+pub fn report<S: LogSink>(alloc: Global, sink: &mut S, moment: u64, words: &[u8])
+    ensures { Tells (S.given sink.old) (S.given sink.new) moment words.now }
+{
+    let mut line = Vec::new(alloc);
+    if put_line(alloc, &mut line, moment, words).is_ok() {
+        sink.take(&line);
+    }
 }
 
 /// A log: the lines that are not yet written, and the counts that are not yet reported. If memory

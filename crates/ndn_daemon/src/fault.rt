@@ -119,6 +119,23 @@ impl Fault {
     }
 }
 
+impl Fault {
+    ghost use Rattle.std.specs.Prelude.{◌↔◌, IsTrue};
+    ghost use Rattle.ndn_daemon.specs.Turn.{EndsTurns};
+
+    /// Returns whether this is a fault with which a node on a bound port ends.
+    pub fn ends_turns(&self) -> bool
+        ensures { IsTrue result ↔ EndsTurns self.now }
+    {
+        match self {
+            Fault::Unreceived => true,
+            Fault::Script(RunFault::Write | RunFault::Memory) => true,
+            Fault::Journal(JournalFault::Unwritten) => true,
+            _ => false,
+        }
+    }
+}
+
 impl fmt::Display for Fault {
     ghost use Rattle.ndn_daemon.specs.Fault.{text_of};
 

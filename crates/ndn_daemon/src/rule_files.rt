@@ -4,17 +4,19 @@ ghost use Rattle.hmac_keys.specs.KeyReading.{AreKeys};
 ghost use Rattle.node_core.specs.Files.{AreRules};
 
 use crate::fault::{Fault, JournalFault};
+use crate::fault_line::report_fault;
 use crate::files::{
     read_key_file, read_keys, read_rule_file, read_rules, unread_keys, unread_rules,
 };
+use crate::machine_clock::MachineClock;
 use crate::watched_ports::RuleSource;
 use hmac_keys::KeyBook;
 use info_rules::Rules;
-use node_ports::{FileOctets, Renewal};
+use node_ports::{FileOctets, Moments, Renewal};
 use std::fs;
 use std::fs::File;
 use std::rt::Files;
-use std::time::SystemTime;
+use std::time::{Clock, SystemTime};
 
 /// The greatest number of octets that a rule file and a key file may have together, so that one
 /// line of a journal can hold both.
@@ -120,7 +122,7 @@ impl<'a, R: AllocGlobal + Files> RuleFiles<'a, R> {
     }
 }
 
-impl<'a, R: AllocGlobal + Eprint + Files> RuleSource for RuleFiles<'a, R> {
+impl<'a, R: AllocGlobal + Clock + Eprint + Files> RuleSource for RuleFiles<'a, R> {
     ghost use Rattle.std.specs.Prelude.{⊤};
 
     // What files have is not known to the contracts.
@@ -133,7 +135,7 @@ impl<'a, R: AllocGlobal + Eprint + Files> RuleSource for RuleFiles<'a, R> {
     ghost goes_on = { λ _ _ _ _ _ _ _. tt };
 
     /// Reads the rules and the keys if a file has changed. A fault in a file is reported on
-    /// standard error.
+    /// standard error, with the time.
     fn renewed(&mut self) -> Option<Renewal> {
         if !self.look() {
             return None;
@@ -141,8 +143,8 @@ impl<'a, R: AllocGlobal + Eprint + Files> RuleSource for RuleFiles<'a, R> {
         match self.read() {
             Ok(read) => Some(read),
             Err(fault) => {
-                // The rules in force remain, even if the fault cannot be written to standard error.
-                let _printed = self.rt.eprint(fault);
+                // The rules in force remain.
+                report_fault(self.rt, MachineClock::new(self.rt).now(), &fault);
                 None
             }
         }

@@ -15,7 +15,7 @@ ghost use Rattle.ndn_daemon.specs.Program.{FailsToRestore, RunsAfresh, RunsResto
 ghost use Rattle.ndn_daemon.specs.Restart.{IsRestart, closing, closings, is_of_peer};
 ghost use Rattle.ndn_daemon.specs.Turn.{EndsAs, EndsTurns, ServesTurns, StopsQuietTurns, StopsTurn, StopsTurns, TakesTurns, Writes, turn_text};
 
-use crate::event_log::{EventLog, LogSink};
+use crate::event_log::{EventLog, LogSink, report};
 use crate::fault::{Fault, JournalFault};
 use crate::logged_ports::{HasEndpoints, LoggedPorts};
 use crate::stored_journal::StoredJournal;
@@ -166,7 +166,7 @@ fn restart_of<J: StoredJournal, S: RuleSource, L: LogSink>(
 {
     let renewal = source.current()?;
     let replayed = journal.replay(alloc, node)?;
-    report_cut(alloc, log, replayed.cut);
+    report_cut(alloc, log, start.moment, replayed.cut);
     let mut first = Vec::new(alloc);
     let now = node.now();
     if !journal.has_last(alloc, &renewal)? {
@@ -202,15 +202,15 @@ fn report_start<L: LogSink>(alloc: Global, log: &mut L, level: LogLevel, start: 
 
 /// Reports that a crash cut the last line of the journal short to `cut` octets, and that this line
 /// is removed. Reports nothing if `cut` is 0, or if memory runs out for the report.
-fn report_cut<L: LogSink>(alloc: Global, log: &mut L, cut: u64) {
+fn report_cut<L: LogSink>(alloc: Global, log: &mut L, moment: u64, cut: u64) {
     if cut == 0 {
         return;
     }
-    let line = format!(in alloc;
-        "journal: the last line was cut short and is taken off: {cut} octets\n"
+    let words = format!(in alloc;
+        "journal: the last line was cut short and is taken off: {cut} octets"
     );
-    if let Ok(line) = line {
-        log.take(line.as_bytes());
+    if let Ok(words) = words {
+        report(alloc, log, moment, words.as_bytes());
     }
 }
 

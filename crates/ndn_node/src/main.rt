@@ -4,10 +4,11 @@
 ghost use Rattle.std.specs.Prelude.{◌≤◌, length};
 
 use ndn_daemon::{
-    Fault, MachineClock, Options, Request, RuleFiles, UdpOptions, request_of, run_on_port,
-    shorten_file,
+    Fault, MachineClock, Options, Request, RuleFiles, UdpOptions, report_fault, request_of,
+    run_on_port, shorten_file,
 };
 use node_core::{NodeParts, RunFault, run_script};
+use node_ports::Moments;
 use std::env::Env;
 use std::fs::File;
 use std::io::Input;
@@ -18,25 +19,38 @@ use std::time::Clock;
 use std::{env, io};
 
 fn main(rt: HostRuntime) -> ExitCode {
-    let Err(fault) = run(&rt) else {
-        return ExitCode::SUCCESS;
-    };
-    let status = fault.exit_status();
-    // If the fault cannot be written to standard error, only the exit status reports the fault.
-    let _printed = rt.eprint(fault);
-    ExitCode::from(status)
+    match run(&rt) {
+        Ok(status) => ExitCode::from(status),
+        Err(fault) => {
+            let status = fault.exit_status();
+            // If the fault cannot be written to standard error, only the exit status reports the
+            // fault.
+            let _printed = rt.eprint(fault);
+            ExitCode::from(status)
+        }
+    }
 }
 
-/// Runs the request of the command line.
+/// Runs the request of the command line. Returns the exit status: 0, or that of a fault that is
+/// reported already.
 fn run<R: Clock + Env + AllocGlobal + Eprint + Files<File = File> + Input + Net + Print>(
     rt: &R,
-) -> Result<(), Fault> {
+) -> Result<u8, Fault> {
     let arguments = arguments_of(rt)?;
     match request_of(rt.alloc(), arguments.as_slice())? {
-        Request::Help(help) => rt.print(help).map_err(|_| Fault::Script(RunFault::Write)),
-        Request::Script(options) => script(rt, options),
+        Request::Help(help) => {
+            rt.print(help).map_err(|_| Fault::Script(RunFault::Write))?;
+            Ok(0)
+        }
+        Request::Script(options) => {
+            script(rt, options)?;
+            Ok(0)
+        }
         Request::Udp(node, options) => udp(rt, node, &options),
-        Request::Shorten(options) => shorten_file(rt, &options),
+        Request::Shorten(options) => {
+            shorten_file(rt, &options)?;
+            Ok(0)
+        }
     }
 }
 
@@ -58,16 +72,24 @@ fn script<R: AllocGlobal + Files + Input + Print>(rt: &R, options: Options) -> R
     run_script(rt.alloc(), &mut rt.reader(), &mut io::writer(rt), parts).map_err(Fault::Script)
 }
 
-/// Runs the node on its port. Writes the answers to standard output, unless the node is quiet.
+/// Runs the node on its port. Writes the answers to standard output, unless the node is quiet. A
+/// fault that ends the turns of the node is reported with its time.
 fn udp<R: AllocGlobal + Clock + Eprint + Files<File = File> + Net + Print>(
     rt: &R,
     node: Options,
     options: &UdpOptions,
-) -> Result<(), Fault>
+) -> Result<u8, Fault>
     requires { length options.now.peers.items ≤ 64 }
 {
     let (parts, files) = parts_of(rt, node)?;
-    run_on_port(rt, parts, MachineClock::new(rt), files, options)
+    match run_on_port(rt, parts, MachineClock::new(rt), files, options) {
+        Ok(()) => Ok(0),
+        Err(fault) if fault.ends_turns() => {
+            report_fault(rt, MachineClock::new(rt).now(), &fault);
+            Ok(fault.exit_status())
+        }
+        Err(fault) => Err(fault),
+    }
 }
 
 /// Reads the rule file and the key file that the options name. Returns the parts of a node that has
