@@ -178,6 +178,7 @@ IsAnswer (job.Show octets) book text = IsShown octets.items text
 IsAnswer (job.Explain asked) book text = IsExplainAnswer asked book text
 IsAnswer (job.Send asked) book text = text ≡ []
 IsAnswer (job.Get asked) book text = text ≡ []
+IsAnswer (job.Put asked) book text = text ≡ []
 IsAnswer (job.Ask asked) book text = IsInterestAnswer asked.interest book text
 
 -- ---- errors: each error except Memory has a cause
@@ -241,4 +242,5 @@ IsRefusal (job.Show octets) book why = IsNotShown octets.items why
 IsRefusal (job.Explain asked) book why = IsExplainRefusal asked why
 IsRefusal (job.Send asked) book why = why ≡ fault.Memory
 IsRefusal (job.Get asked) book why = why ≡ fault.Memory
+IsRefusal (job.Put asked) book why = why ≡ fault.Memory
 IsRefusal (job.Ask asked) book why = IsInterestRefusal asked.interest book why

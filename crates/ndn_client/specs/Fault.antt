@@ -49,8 +49,8 @@ segment_words OtherContent = codes "it came before with another Content"
 segment_words SegmentMemory = codes "out of memory"
 
 -- The exit status. It is 1 if a key is named without a key file, or if the key file is too large or
--- its content has a fault, or if a Data is no segment of the file. It is 2 if an argument is not
--- UTF-8. It is 3 if reading, writing or
+-- its content has a fault, if a Data is no segment of the file, or if a repository does not take a
+-- Data. It is 2 if an argument is not UTF-8. It is 3 if reading, writing or
 -- sending failed, if a port could not be bound, if memory ran out, or if no answer came to the
 -- packet of `send`. It is 7 if the signature of the answer is wrong. A request that was not done,
 -- and the fault of a job, have their own exit statuses.
@@ -71,6 +71,9 @@ status_of (fault.NotDone why) = failure_status why
 status_of (fault.Forged name) = 7
 status_of (fault.NotSegment name why) = 1
 status_of (fault.Unanswered name) = 5
+status_of (fault.NotTaken name) = 1
+status_of (fault.NoFile path kind) = 3
+status_of fault.Shortened = 3
 status_of (fault.Unwritten path kind) = 3
 
 -- the message for standard error, which ends with an LF, or None if the command-line parser makes
@@ -97,5 +100,10 @@ text_of (fault.NotSegment name why) = Some (codes "error: the Data " ++ (uri_of 
     ++ (codes " is no segment of the file: " ++ (segment_words why ++ codes "\n"))))
 text_of (fault.Unanswered name) =
     Some (codes "error: no answer came in time for " ++ (uri_of name ++ codes "\n"))
+text_of (fault.NotTaken name) = Some (codes "error: the repository does not take the Data "
+    ++ (uri_of name ++ codes ": the rules may not allow it\n"))
+text_of (fault.NoFile path kind) = Some (codes "error: the file " ++ (string_bytes path
+    ++ (codes " cannot be read: " ++ (cause_of kind ++ codes "\n"))))
+text_of fault.Shortened = Some (codes "error: the file became shorter while it was read\n")
 text_of (fault.Unwritten path kind) = Some (codes "error: the file " ++ (string_bytes path
     ++ (codes " cannot be written: " ++ (cause_of kind ++ codes "\n"))))

@@ -16,7 +16,7 @@ use ndn_requests::command_name;
 use std::alloc::Global;
 
 /// Returns the text to print for a job if no packet is sent, given the keys of the job's key file.
-/// For `send` and `get`, and for `explain` without a packet, the text is empty.
+/// For `send`, `get` and `put`, and for `explain` without a packet, the text is empty.
 ///
 /// Each error except `Memory` has its cause in the job or its keys. `Usage` is never returned.
 pub fn text_of(alloc: Global, job: &Job, book: &KeyBook) -> Result<Vec<u8>, ToolFault>
@@ -33,7 +33,7 @@ pub fn text_of(alloc: Global, job: &Job, book: &KeyBook) -> Result<Vec<u8>, Tool
         Job::Tag(job) => tag_text(alloc, job, book),
         Job::Show(octets) => shown_text(alloc, octets),
         Job::Explain(job) => explain_text(alloc, job, book),
-        Job::Send(_) | Job::Get(_) => Ok(Vec::new(alloc)),
+        Job::Send(_) | Job::Get(_) | Job::Put(_) => Ok(Vec::new(alloc)),
     }
 }
 
@@ -259,7 +259,10 @@ fn interest_sign<'a>(
 
 /// Returns how a Data or a command is signed: with the key named `key`, or with DigestSha256 if no
 /// key is named.
-fn data_sign<'a>(key: &'a Option<NameBuf>, book: &'a KeyBook) -> Result<Sign<'a>, ToolFault>
+pub(crate) fn data_sign<'a>(
+    key: &'a Option<NameBuf>,
+    book: &'a KeyBook,
+) -> Result<Sign<'a>, ToolFault>
     ensures { MatchResult result (SignsData key.now book.now) (IsNoKey key.now book.now) }
 {
     match key {

@@ -21,7 +21,7 @@ use std::alloc::Global;
 
 /// The greatest number of Interests that have no answer yet. The answers to so many Interests fit in
 /// the buffer that Linux gives to a socket.
-const WINDOW: usize = 12;
+const WINDOW: usize = 8;
 
 /// A file that is being fetched.
 #[derive(Drop)]

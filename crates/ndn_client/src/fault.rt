@@ -71,6 +71,20 @@ pub enum Fault {
         /// The name of the Interest.
         name: NameBuf,
     },
+    /// The repository does not take a Data that a command has asked for.
+    NotTaken {
+        /// The name of the Data.
+        name: NameBuf,
+    },
+    /// The file to store cannot be read.
+    NoFile {
+        /// The path of the file.
+        path: String,
+        /// Why the file cannot be read.
+        kind: ErrorKind,
+    },
+    /// The file to store became shorter while it was read.
+    Shortened,
     /// The file cannot be written.
     Unwritten {
         /// The path of the file.
@@ -103,11 +117,13 @@ impl Fault {
             | Fault::NoKeyFile => 1,
             Fault::NotDone(failure) => failure_status(*failure),
             Fault::Forged { .. } => 7,
-            Fault::NotSegment { .. } => 1,
+            Fault::NotSegment { .. } | Fault::NotTaken { .. } => 1,
             Fault::Unanswered { .. } => 5,
             Fault::Keys(KeyFault::Memory)
             | Fault::Unread { .. }
             | Fault::Unwritten { .. }
+            | Fault::NoFile { .. }
+            | Fault::Shortened
             | Fault::Clock
             | Fault::Write
             | Fault::Input
@@ -189,6 +205,18 @@ impl fmt::Display for Fault {
                 segment_words(*why)
             ),
             Fault::Unanswered { name } => writeln!(f, "error: no answer came in time for {name}"),
+            Fault::NotTaken { name } => writeln!(
+                f,
+                "error: the repository does not take the Data {name}: the rules may not allow it"
+            ),
+            Fault::NoFile { path, kind } => {
+                writeln!(
+                    f,
+                    "error: the file {path} cannot be read: {}",
+                    cause_of(*kind)
+                )
+            }
+            Fault::Shortened => f.write_str("error: the file became shorter while it was read\n"),
             Fault::Unwritten { path, kind } => {
                 writeln!(
                     f,

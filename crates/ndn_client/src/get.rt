@@ -1,23 +1,21 @@
 //! Fetching a file: the socket, the clock, and the file that is written.
 
-ghost use Rattle.std.specs.Prelude.{◌≤◌, IfOk, IfSome, vec_len};
-
 use crate::download::{Download, stem_of};
 use crate::fault::Fault;
-use crate::running::{MAX_DATAGRAM, send, socket_of};
+use crate::link::Link;
 use hmac_keys::KeyBook;
 use ndn_jobs::{GetJob, ToolFault, nonce_after};
 use ndn_names::component_type::VERSION;
 use ndn_names::{Name, NameBuf};
 use ndn_packets::{CONGESTION, DUPLICATE, Frame, InterestWriter, read_frame};
-use ndn_requests::{Failure, Silence, forged_in};
+use ndn_requests::{Failure, forged_in};
 use ndn_segments::{SegmentFault, segment_name};
 use std::alloc::Global;
 use std::fs::File;
 use std::io::Write;
-use std::net::{Net, UdpSocket};
+use std::net::Net;
 use std::rt::Files;
-use std::time::{Clock, Duration, Instant};
+use std::time::Clock;
 use std::{fs, io};
 
 /// How often the Interest that looks for the version of a file is sent.
@@ -45,17 +43,13 @@ impl From<Fault> for Stopped {
     }
 }
 
-/// The socket to a node, and what the Interests have in common.
+/// The link to a node, and what the Interests have in common.
 #[derive(Drop)]
 struct Asker<'a, R> {
-    rt: &'a R,
-    socket: UdpSocket,
-    start: Instant,
+    link: Link<'a, R>,
     lifetime: Option<u64>,
     /// The Nonce of the Interest that was sent last.
     nonce: [u8; 4],
-    /// The datagram that came last.
-    buffer: Vec<u8>,
 }
 
 /// Fetches the file of a job, and writes it to the file that the job names, or to standard output.
@@ -71,12 +65,9 @@ where
     let alloc = rt.alloc();
     let retries = u32::try_from(job.retries).unwrap_or(u32::MAX);
     let mut asker = Asker {
-        rt,
-        socket: socket_of(rt, job.from, job.to)?,
-        start: Instant::now(rt).map_err(|_| Fault::Clock)?,
+        link: Link::open(rt, job.from, job.to)?,
         lifetime: job.lifetime,
         nonce: job.nonce,
-        buffer: vec![in alloc; 0; MAX_DATAGRAM]?,
     };
     let stem = asker.find(job.name.view(), book)?;
     let mut download = Download::new(alloc, stem, retries)?;
@@ -137,7 +128,7 @@ fn unwritten(alloc: Global, path: &str, kind: io::ErrorKind) -> Fault {
 }
 
 /// Returns the fault that no answer came to an Interest with this name.
-fn unanswered(alloc: Global, name: Name<'_>) -> Fault {
+pub(crate) fn unanswered(alloc: Global, name: Name<'_>) -> Fault {
     match NameBuf::from_name(alloc, name) {
         Ok(name) => Fault::Unanswered { name },
         Err(_) => Fault::Tool(ToolFault::Memory),
@@ -145,14 +136,6 @@ fn unanswered(alloc: Global, name: Name<'_>) -> Fault {
 }
 
 impl<'a, R: Clock + AllocGlobal> Asker<'a, R> {
-    /// Returns the microseconds since the start.
-    fn moment(&self) -> Result<u64, Fault> {
-        match self.start.elapsed(self.rt) {
-            Ok(passed) => Ok(u64::try_from(passed.as_micros()).unwrap_or(u64::MAX)),
-            Err(_) => Err(Fault::Clock),
-        }
-    }
-
     /// Sends an Interest with a new Nonce. `is_first` is true for the Interest that looks for the
     /// version of a file.
     fn ask(&mut self, name: Name<'_>, is_first: bool) -> Result<(), Fault> {
@@ -169,43 +152,23 @@ impl<'a, R: Clock + AllocGlobal> Asker<'a, R> {
             time: None,
             seq: None,
         };
-        let mut packet = Vec::new(self.rt.alloc());
+        let mut packet = Vec::new(self.link.alloc());
         writer.write(&mut packet)?;
-        send(&self.socket, &packet)
+        self.link.send(&packet)
     }
 
     /// Sends the Interest for a segment.
     fn ask_segment(&mut self, stem: Name<'_>, number: u64) -> Result<(), Fault> {
-        match segment_name(self.rt.alloc(), stem, number) {
+        match segment_name(self.link.alloc(), stem, number) {
             Ok(name) => self.ask(name.view(), false),
             Err(_) => Err(Fault::Tool(ToolFault::Memory)),
-        }
-    }
-
-    /// Returns the length of the datagram that comes before the moment `deadline`, or `None` if none
-    /// comes. The datagram is at the front of the buffer.
-    fn receive(&mut self, deadline: u64) -> Result<Option<usize>, Fault>
-        ensures { IfOk result (λ len. IfSome len (λ n. n ≤ vec_len self.new.buffer)) }
-    {
-        let left = deadline.saturating_sub(self.moment()?);
-        if left == 0 {
-            return Ok(None);
-        }
-        let wait = Some(Duration::from_micros(left));
-        self.socket.set_read_timeout(wait).map_err(|_| Fault::Send)?;
-        match self.socket.recv(&mut self.buffer) {
-            Ok(len) => Ok(Some(len)),
-            Err(error) if error.kind() == io::ErrorKind::ConnectionRefused => {
-                Err(Fault::NotDone(Failure::Silent(Silence::Closed)))
-            }
-            Err(_) => Ok(None),
         }
     }
 
     /// Returns the name of a file with its version. If the name that is given has no version, an
     /// Interest looks for one.
     fn find(&mut self, name: Name<'_>, book: &KeyBook) -> Result<NameBuf, Fault> {
-        let alloc = self.rt.alloc();
+        let alloc = self.link.alloc();
         let last = name.component(name.len().saturating_sub(1));
         if last.is_some_and(|last| last.kind == VERSION) {
             return Ok(NameBuf::from_name(alloc, name)?);
@@ -222,12 +185,12 @@ impl<'a, R: Clock + AllocGlobal> Asker<'a, R> {
     /// Waits for the answer to the Interest that looks for the version of a file.
     fn found(&mut self, name: Name<'_>, book: &KeyBook) -> Result<Option<NameBuf>, Fault> {
         let wait = self.lifetime.unwrap_or(LIFETIME).saturating_mul(1_000);
-        let deadline = self.moment()?.saturating_add(wait);
+        let deadline = self.link.moment()?.saturating_add(wait);
         for _ in 0..u64::MAX {
-            let Some(len) = self.receive(deadline)? else {
+            let Some(len) = self.link.receive(deadline)? else {
                 return Ok(None);
             };
-            let stem = stem_in(self.rt.alloc(), name, &self.buffer[..len], book)?;
+            let stem = stem_in(self.link.alloc(), name, self.link.datagram(len), book)?;
             if stem.is_some() {
                 return Ok(stem);
             }
@@ -242,7 +205,7 @@ impl<'a, R: Clock + AllocGlobal> Asker<'a, R> {
         book: &KeyBook,
         writer: &mut W,
     ) -> Result<(), Stopped> {
-        let mut text = Vec::new(self.rt.alloc());
+        let mut text = Vec::new(self.link.alloc());
         for _ in 0..u64::MAX {
             self.ask_all(download)?;
             if download.is_finished() {
@@ -258,7 +221,7 @@ impl<'a, R: Clock + AllocGlobal> Asker<'a, R> {
 
     /// Sends the Interests that are to be sent now.
     fn ask_all(&mut self, download: &mut Download) -> Result<(), Fault> {
-        let now = self.moment()?;
+        let now = self.link.moment()?;
         for _ in 0..u64::MAX {
             let Some(number) = download.next(now) else {
                 break;
@@ -275,7 +238,7 @@ impl<'a, R: Clock + AllocGlobal> Asker<'a, R> {
         book: &KeyBook,
         text: &mut Vec<u8>,
     ) -> Result<(), Fault> {
-        let alloc = self.rt.alloc();
+        let alloc = self.link.alloc();
         if let Some(number) = download.gave_up() {
             return match segment_name(alloc, download.stem(), number) {
                 Ok(name) => Err(unanswered(alloc, name.view())),
@@ -284,15 +247,15 @@ impl<'a, R: Clock + AllocGlobal> Asker<'a, R> {
         }
         let deadline = match download.deadline() {
             Some(deadline) => deadline,
-            None => self.moment()?,
+            None => self.link.moment()?,
         };
-        match self.receive(deadline)? {
+        match self.link.receive(deadline)? {
             Some(len) => {
-                let now = self.moment()?;
-                download.take(alloc, &self.buffer[..len], book, now, text)
+                let now = self.link.moment()?;
+                download.take(alloc, self.link.datagram(len), book, now, text)
             }
             None => {
-                download.expire(self.moment()?);
+                download.expire(self.link.moment()?);
                 Ok(())
             }
         }

@@ -8,7 +8,9 @@ mod fault;
 mod get;
 mod input;
 mod key_file;
+mod link;
 mod plan;
+mod put;
 mod running;
 mod source;
 
@@ -19,7 +21,7 @@ pub use key_file::{read_book, read_key_file, unread_keys};
 pub use ndn_explain::put_input;
 pub use ndn_jobs::{
     AskJob, CommandJob, DataJob, ExplainJob, GetJob, InterestJob, Job, KeyChoice, LinkJob, Ports,
-    SendJob, Stamp, TagJob, Token, ToolFault, Usage, parse_words,
+    PutJob, SendJob, Stamp, TagJob, Token, ToolFault, Usage, parse_words,
 };
 pub use ndn_requests::{
     Exchange, Failure, NodeList, Outcome, Progress, Silence, View, judge, put_explained, silence_of,

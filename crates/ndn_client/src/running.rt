@@ -7,6 +7,7 @@ use crate::get::get;
 use crate::input::{read_input_line, read_packet_input};
 use crate::key_file::{read_key_file, unread_keys};
 use crate::plan::{InputForm, Plan, fault_of_silence, input_form, plan_of};
+use crate::put::put;
 use crate::source::source_of;
 use hmac_keys::KeyBook;
 use ndn_jobs::{Job, ToolFault, parse_words};
@@ -65,10 +66,13 @@ where
     if let Job::Get(job) = &job {
         return get(rt, job, &book);
     }
+    if let Job::Put(job) = &job {
+        return put(rt, job, &book);
+    }
     run_other(rt, job, &book)
 }
 
-/// Runs a job other than `Get`.
+/// Runs a job other than `Get` and `Put`.
 fn run_other<R>(rt: &R, job: Job, book: &KeyBook) -> Result<(), Fault>
 where
     R: Clock + AllocGlobal + Eprint + Input + Net + Print,
@@ -177,7 +181,7 @@ pub fn exchange_on<R: Clock + AllocGlobal + Eprint + Print>(
     Err(fault_of_silence(&exchange, false))
 }
 
-fn print<R: Print>(rt: &R, text: &[u8]) -> Result<(), Fault> {
+pub(crate) fn print<R: Print>(rt: &R, text: &[u8]) -> Result<(), Fault> {
     io::writer(rt).write_all(text).map_err(|_| Fault::Write)
 }
 
@@ -265,7 +269,7 @@ pub fn socket_of<R: Net>(rt: &R, from: Option<u16>, to: SocketAddr) -> Result<Ud
     Ok(socket)
 }
 
-pub(crate) fn send(socket: &UdpSocket, packet: &[u8]) -> Result<(), Fault> {
+fn send(socket: &UdpSocket, packet: &[u8]) -> Result<(), Fault> {
     match socket.send(packet) {
         Ok(sent) if sent == packet.len() => Ok(()),
         _ => Err(Fault::Send),
@@ -307,7 +311,7 @@ fn arguments_of<R: Env + AllocGlobal>(rt: &R) -> Result<Vec<String>, Fault> {
 
 /// Returns the time of the clock in milliseconds since 1970. Returns the fault `Clock` if the clock
 /// cannot be read, its time is before 1970, or the number of milliseconds is 2^64 or more.
-fn milliseconds<R: Clock>(rt: &R) -> Result<u64, Fault> {
+pub(crate) fn milliseconds<R: Clock>(rt: &R) -> Result<u64, Fault> {
     let Ok(time) = SystemTime::now(rt) else {
         return Err(Fault::Clock);
     };

@@ -9,7 +9,7 @@ use Rattle.clap.specs.Simple.{App, app_of, new_app, new_rule, new_shape, with_ru
 use Rattle.ndn_command_line.specs.declared.argument.Argument.{Argument}
 use Rattle.ndn_command_line.specs.declared.argument.Argument.TheVariants.{Positional, MaybePositional, Optional, Required, Flag}
 use Rattle.ndn_command_line.specs.declared.subcommand.Subcommand.{Subcommand}
-use Rattle.ndn_command_line.specs.declared.subcommand.Subcommand.TheVariants.{Interest, Data, Command as AnyCommand, Route, Strategy, Cache, Repository, Tag, Show, Explain, Send, Peek, Get}
+use Rattle.ndn_command_line.specs.declared.subcommand.Subcommand.TheVariants.{Interest, Data, Command as AnyCommand, Route, Strategy, Cache, Repository, Tag, Show, Explain, Send, Peek, Get, Put}
 
 -- ---- arguments
 
@@ -199,6 +199,19 @@ get_app = a_subcommand (codes "get") (
     ∷ an_option (codes "keys")
     ∷ [])
 
+unfoldable pub put_app : App
+put_app = a_subcommand (codes "put") (
+    a_positional (codes "FILE")
+    ∷ a_positional (codes "URI")
+    ∷ a_required_option (codes "repo")
+    ∷ a_required_option (codes "to")
+    ∷ an_option (codes "from")
+    ∷ an_option (codes "freshness")
+    ∷ an_option (codes "retries")
+    ∷ an_option (codes "keys")
+    ∷ an_option (codes "key")
+    ∷ [])
+
 -- ---- the subcommands by name
 
 abbrev pub app_for : Subcommand → App
@@ -215,6 +228,7 @@ app_for Explain = explain_app
 app_for Send = send_app
 app_for Peek = peek_app
 app_for Get = get_app
+app_for Put = put_app
 
 abbrev pub subcommand_named : List ℕ → Option Subcommand
 subcommand_named word =
@@ -230,8 +244,9 @@ subcommand_named word =
     if bytes_eq word (codes "explain") then Some Explain else (
     if bytes_eq word (codes "send") then Some Send else (
     if bytes_eq word (codes "peek") then Some Peek else (
-    if bytes_eq word (codes "get") then Some Get else
-    None))))))))))))
+    if bytes_eq word (codes "get") then Some Get else (
+    if bytes_eq word (codes "put") then Some Put else
+    None)))))))))))))
 
 -- The command of the program. It has a version and requires a subcommand. If there are no
 -- arguments, the help is shown. No subcommand is named `help`.
@@ -247,7 +262,8 @@ tool = record {
   subs =
       interest_app.top ∷ data_app.top ∷ command_app.top ∷ route_app.top ∷ strategy_app.top
       ∷ cache_app.top ∷ repository_app.top ∷ tag_app.top ∷ show_app.top
-      ∷ explain_app.top ∷ send_app.top ∷ peek_app.top ∷ get_app.top ∷ [];
+      ∷ explain_app.top ∷ send_app.top ∷ peek_app.top ∷ get_app.top
+      ∷ put_app.top ∷ [];
 }
 
 -- ---- the commands that are built

@@ -33,6 +33,7 @@ pub fn tool_command<'a>(alloc: Global) -> Result<Command<'a>, AllocError>
         Subcommand::Send,
         Subcommand::Peek,
         Subcommand::Get,
+        Subcommand::Put,
     ];
     with_subcommands(alloc, command, &subcommands)
 }

@@ -220,7 +220,7 @@ piece of the file and, as FinalBlockId, the number of the last segment. URI is N
 NAME/v=VERSION. Without a version, the first Data that the network has under NAME decides the
 version. A file without versions has the names NAME/seg=0, NAME/seg=1 and so on.
 
-Up to 12 Interests are sent at once. An Interest without an answer is sent again with a new Nonce,
+Up to 8 Interests are sent at once. An Interest without an answer is sent again with a new Nonce,
 after a time that depends on how soon other answers came; so is an Interest whose answer is a Nack
 for congestion. The signature of each segment is checked: a DigestSha256, and with --keys an HMAC, if
 the file has its key. All other signatures are not checked.
@@ -233,6 +233,24 @@ no answer in time, 6 if no program listens on the port, and 7 if a signature is 
 
 Example: the file /data/log, from the node at port 6363.
   $ ndn_tool get /data/log --to 6363 --output log";
+
+pub const PUT: &str =
+    "The file is cut into pieces of 8,000 octets, and each becomes a Data with the name
+NAME/v=VERSION/seg=K. URI is NAME or NAME/v=VERSION. Without a version, the version is the time of
+the clock, in microseconds since 1970. For each Data the client sends a command insert to the
+repository, then the Data, and then the command again, until the reply says that the Data is stored.
+At most 8 Data are under way. A command without a reply is sent again.
+
+Data and commands are signed with HmacWithSha256 with --key, and with DigestSha256 without --key.
+The rules of the node must allow both. If the file was stored in part, give NAME/v=VERSION, and the
+rest is stored.
+
+When all is stored, the name with its version is printed. The exit status is 1 if a reply says that
+a command was not done, or if the repository does not take a Data, 5 if a command has no reply in
+time, and 6 if no program listens on the port.
+
+Example: store the file log as /data/log in the repository /repo of the node at port 6363.
+  $ ndn_tool put log /data/log --repo /repo --to 6363 --keys ops.keys --key /ops/KEY/1";
 
 pub const TIME: &str = "The time of the signature, in milliseconds since 1970";
 
@@ -281,3 +299,7 @@ pub const PEEK_TIMEOUT: &str =
 pub const RETRIES: &str = "How often the Interest is sent again if no answer comes; 0 if absent";
 
 pub const GET_RETRIES: &str = "How often the Interest of a segment is sent again; 15 if absent";
+
+pub const PUT_RETRIES: &str = "How often a command is sent again without a reply; 15 if absent";
+
+pub const FRESHNESS: &str = "The FreshnessPeriod in milliseconds; 0 if absent";

@@ -2,7 +2,7 @@
 
 ghost use Rattle.std.specs.Prelude.{map, IfOk};
 ghost use Rattle.clap.specs.Simple.{App};
-ghost use Rattle.ndn_command_line.specs.CommandLine.{HasApp, rule_for, a_subcommand, app_for, with_subcommands, interest_app, data_app, command_app, route_app, strategy_app, cache_app, repository_app, tag_app, show_app, explain_app, send_app, peek_app, get_app, stamped};
+ghost use Rattle.ndn_command_line.specs.CommandLine.{HasApp, rule_for, a_subcommand, app_for, with_subcommands, interest_app, data_app, command_app, route_app, strategy_app, cache_app, repository_app, tag_app, show_app, explain_app, send_app, peek_app, get_app, put_app, stamped};
 
 use crate::argument::{Argument, with_arguments};
 use crate::help;
@@ -25,6 +25,7 @@ pub enum Subcommand {
     Send,
     Peek,
     Get,
+    Put,
 }
 
 impl Subcommand {
@@ -49,6 +50,7 @@ impl Subcommand {
             "send" => Some(Subcommand::Send),
             "peek" => Some(Subcommand::Peek),
             "get" => Some(Subcommand::Get),
+            "put" => Some(Subcommand::Put),
             _ => None,
         }
     }
@@ -71,6 +73,7 @@ impl Subcommand {
             Subcommand::Send => send_command(alloc),
             Subcommand::Peek => peek_command(alloc),
             Subcommand::Get => get_command(alloc),
+            Subcommand::Put => put_command(alloc),
         }
     }
 }
@@ -140,11 +143,7 @@ fn data_command<'a>(alloc: Global) -> Result<Command<'a>, AllocError>
     let arguments = [
         Argument::Positional("URI", "The name"),
         Argument::Optional("content", "HEX", "The Content"),
-        Argument::Optional(
-            "freshness",
-            "N",
-            "The FreshnessPeriod in milliseconds; 0 if absent",
-        ),
+        Argument::Optional("freshness", "N", help::FRESHNESS),
         Argument::Optional("keys", "FILE", help::KEYS),
         Argument::Optional("key", "URI", help::KEY),
     ];
@@ -317,6 +316,24 @@ fn get_command<'a>(alloc: Global) -> Result<Command<'a>, AllocError>
     ];
     let about = "Fetches a file, which is Data in segments";
     described(alloc, "get", about, help::GET, &arguments)
+}
+
+fn put_command<'a>(alloc: Global) -> Result<Command<'a>, AllocError>
+    ensures { IfOk result (HasApp put_app) }
+{
+    let arguments = [
+        Argument::Positional("FILE", "The file to store"),
+        Argument::Positional("URI", "The name of the file, with or without its version"),
+        Argument::Required("repo", "URI", "The prefix of the repository"),
+        Argument::Required("to", "ENDPOINT", help::TO),
+        Argument::Optional("from", "PORT", help::FROM),
+        Argument::Optional("freshness", "N", help::FRESHNESS),
+        Argument::Optional("retries", "N", help::PUT_RETRIES),
+        Argument::Optional("keys", "FILE", help::KEYS),
+        Argument::Optional("key", "URI", help::KEY),
+    ];
+    let about = "Stores a file in a repository, in segments";
+    described(alloc, "put", about, help::PUT, &arguments)
 }
 
 /// Adds the options of a stamp to a command: time, Nonce, sequence number, key, ports and timeout.

@@ -9,14 +9,16 @@ use Rattle.ndn_jobs.specs.declared.job.ExplainJob.{ExplainJob}
 use Rattle.ndn_jobs.specs.declared.job.SendJob.{SendJob}
 use Rattle.ndn_jobs.specs.declared.job.AskJob.{AskJob}
 use Rattle.ndn_jobs.specs.declared.job.GetJob.{GetJob}
+use Rattle.ndn_jobs.specs.declared.job.PutJob.{PutJob}
 use Rattle.ndn_jobs.specs.declared.job.Job.{Job}
-use Rattle.ndn_jobs.specs.declared.job.Job.TheVariants.{Help, Interest, Data, Command, Tag, Show, Explain, Send, Ask, Get}
+use Rattle.ndn_jobs.specs.declared.job.Job.TheVariants.{Help, Interest, Data, Command, Tag, Show, Explain, Send, Ask, Get, Put}
 use Rattle.ndn_command_line.specs.declared.subcommand.Subcommand.TheVariants as sub
 use Rattle.ndn_jobs.specs.Options.{IsLinkJob, IsDataJob, IsCommandJob, IsTagJob, IsShowJob, IsExplainJob, IsSendJob}
 use Rattle.ndn_jobs.specs.ShortForm.{IsShortJob}
 use Rattle.ndn_jobs.specs.RepositoryForm.{IsRepositoryJob}
 use Rattle.ndn_jobs.specs.Ask.{is_list, IsListJob, IsPeekJob}
 use Rattle.ndn_jobs.specs.Get.{IsGetJob}
+use Rattle.ndn_jobs.specs.Put.{IsPutJob}
 use Rattle.ndn_jobs.specs.Command.{IsJobFor, IsListedJob}
 
 module _ (now : ℕ) (seed name : List ℕ) (rows : List Row) where
@@ -31,6 +33,7 @@ module _ (now : ℕ) (seed name : List ℕ) (rows : List Row) where
   an_interest (Send job) h = absurd h
   an_interest (Ask job) h = absurd h
   an_interest (Get job) h = absurd h
+  an_interest (Put job) h = absurd h
 
   pub a_data : (job : Job) → IsJobFor sub.Data now seed name rows job → (x : DataJob) × IsDataJob rows x
   a_data (Help error) h = absurd h
@@ -43,6 +46,7 @@ module _ (now : ℕ) (seed name : List ℕ) (rows : List Row) where
   a_data (Send job) h = absurd h
   a_data (Ask job) h = absurd h
   a_data (Get job) h = absurd h
+  a_data (Put job) h = absurd h
 
   pub a_command : (job : Job) → IsJobFor sub.Command now seed name rows job → (x : CommandJob) × IsCommandJob rows x
   a_command (Help error) h = absurd h
@@ -55,6 +59,7 @@ module _ (now : ℕ) (seed name : List ℕ) (rows : List Row) where
   a_command (Send job) h = absurd h
   a_command (Ask job) h = absurd h
   a_command (Get job) h = absurd h
+  a_command (Put job) h = absurd h
 
   pub a_cache : (job : Job) → IsJobFor sub.Cache now seed name rows job → (x : CommandJob) × IsShortJob now seed name rows x
   a_cache (Help error) h = absurd h
@@ -67,6 +72,7 @@ module _ (now : ℕ) (seed name : List ℕ) (rows : List Row) where
   a_cache (Send job) h = absurd h
   a_cache (Ask job) h = absurd h
   a_cache (Get job) h = absurd h
+  a_cache (Put job) h = absurd h
 
   pub a_repository : (job : Job) → IsJobFor sub.Repository now seed name rows job → (x : CommandJob) × IsRepositoryJob now seed rows x
   a_repository (Help error) h = absurd h
@@ -79,6 +85,7 @@ module _ (now : ℕ) (seed name : List ℕ) (rows : List Row) where
   a_repository (Send job) h = absurd h
   a_repository (Ask job) h = absurd h
   a_repository (Get job) h = absurd h
+  a_repository (Put job) h = absurd h
 
   pub a_tag : (job : Job) → IsJobFor sub.Tag now seed name rows job → (x : TagJob) × IsTagJob rows x
   a_tag (Help error) h = absurd h
@@ -91,6 +98,7 @@ module _ (now : ℕ) (seed name : List ℕ) (rows : List Row) where
   a_tag (Send job) h = absurd h
   a_tag (Ask job) h = absurd h
   a_tag (Get job) h = absurd h
+  a_tag (Put job) h = absurd h
 
   pub a_show : (job : Job) → IsJobFor sub.Show now seed name rows job → (x : Vec ℕ Global) × IsShowJob rows x
   a_show (Help error) h = absurd h
@@ -103,6 +111,7 @@ module _ (now : ℕ) (seed name : List ℕ) (rows : List Row) where
   a_show (Send job) h = absurd h
   a_show (Ask job) h = absurd h
   a_show (Get job) h = absurd h
+  a_show (Put job) h = absurd h
 
   pub an_explanation : (job : Job) → IsJobFor sub.Explain now seed name rows job → (x : ExplainJob) × IsExplainJob rows x
   an_explanation (Help error) h = absurd h
@@ -115,6 +124,7 @@ module _ (now : ℕ) (seed name : List ℕ) (rows : List Row) where
   an_explanation (Send job) h = absurd h
   an_explanation (Ask job) h = absurd h
   an_explanation (Get job) h = absurd h
+  an_explanation (Put job) h = absurd h
 
   pub a_send : (job : Job) → IsJobFor sub.Send now seed name rows job → (x : SendJob) × IsSendJob rows x
   a_send (Help error) h = absurd h
@@ -127,6 +137,7 @@ module _ (now : ℕ) (seed name : List ℕ) (rows : List Row) where
   a_send (Send job) h = (job, h)
   a_send (Ask job) h = absurd h
   a_send (Get job) h = absurd h
+  a_send (Put job) h = absurd h
 
   pub a_peek : (job : Job) → IsJobFor sub.Peek now seed name rows job → (x : AskJob) × IsPeekJob now seed rows x
   a_peek (Help error) h = absurd h
@@ -139,6 +150,7 @@ module _ (now : ℕ) (seed name : List ℕ) (rows : List Row) where
   a_peek (Send job) h = absurd h
   a_peek (Ask job) h = (job, h)
   a_peek (Get job) h = absurd h
+  a_peek (Put job) h = absurd h
 
   pub a_file : (job : Job) → IsJobFor sub.Get now seed name rows job → (x : GetJob) × IsGetJob now seed rows x
   a_file (Help error) h = absurd h
@@ -151,6 +163,20 @@ module _ (now : ℕ) (seed name : List ℕ) (rows : List Row) where
   a_file (Send job) h = absurd h
   a_file (Ask job) h = absurd h
   a_file (Get job) h = (job, h)
+  a_file (Put job) h = absurd h
+
+  pub a_stored_file : (job : Job) → IsJobFor sub.Put now seed name rows job → (x : PutJob) × IsPutJob now seed rows x
+  a_stored_file (Help error) h = absurd h
+  a_stored_file (Interest job) h = absurd h
+  a_stored_file (Data job) h = absurd h
+  a_stored_file (Command job) h = absurd h
+  a_stored_file (Tag job) h = absurd h
+  a_stored_file (Show octets) h = absurd h
+  a_stored_file (Explain job) h = absurd h
+  a_stored_file (Send job) h = absurd h
+  a_stored_file (Ask job) h = absurd h
+  a_stored_file (Get job) h = absurd h
+  a_stored_file (Put job) h = (job, h)
 
   -- If the verb is `list`, the job of `route` or `strategy` is a request for a list. If the verb is
   -- not `list`, the job is a command that is given by its short form.
@@ -166,6 +192,7 @@ module _ (now : ℕ) (seed name : List ℕ) (rows : List Row) where
   a_list said (Send job) h = absurd h
   a_list said (Ask job) h = (job, h.1)
   a_list said (Get job) h = absurd h
+  a_list said (Put job) h = absurd h
 
   pub a_short : is_list rows ≡ false → (job : Job) → IsListedJob now seed name rows job → (x : CommandJob) × IsShortJob now seed name rows x
   a_short other (Help error) h = absurd h
@@ -178,3 +205,4 @@ module _ (now : ℕ) (seed name : List ℕ) (rows : List Row) where
   a_short other (Send job) h = absurd h
   a_short other (Ask job) h = let apart = h.0 in absurd cc
   a_short other (Get job) h = absurd h
+  a_short other (Put job) h = absurd h

@@ -8,5 +8,6 @@ pub mod RepositoryForm
 pub mod Job
 pub mod Fault
 pub mod Get
+pub mod Put
 pub mod Command
 pub use Rattle.ndn_command_line.specs.CommandLine

@@ -7,7 +7,7 @@ ghost use Rattle.ndn_jobs.specs.Command.{reading_of, IsJob, IsJobFor, IsListedJo
 
 use crate::fault::{ToolFault, Usage};
 use crate::job::{
-    AskJob, CommandJob, DataJob, ExplainJob, GetJob, Job, LinkJob, SendJob, TagJob, is_list,
+    AskJob, CommandJob, DataJob, ExplainJob, GetJob, Job, LinkJob, PutJob, SendJob, TagJob, is_list,
 };
 use crate::nonce::seed_of;
 use crate::options::required_octets;
@@ -127,6 +127,7 @@ fn job_for(
         Subcommand::Send => Ok(Job::Send(SendJob::read(alloc, options)?)),
         Subcommand::Peek => Ok(Job::Ask(AskJob::read_peek(alloc, options, now, seed)?)),
         Subcommand::Get => Ok(Job::Get(GetJob::read(alloc, options, now, seed)?)),
+        Subcommand::Put => Ok(Job::Put(PutJob::read(alloc, options, now, seed)?)),
     }
 }
 

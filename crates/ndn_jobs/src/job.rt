@@ -21,7 +21,7 @@ use ndn_requests::{NodeList, Parameters, View, action_name, list_name};
 use std::alloc::Global;
 use std::net::SocketAddr;
 
-/// How often the Interest of a segment is sent again if the command line does not say so.
+/// How often an Interest of `get` or `put` is sent again if the command line does not say so.
 const USUAL_RETRIES: u64 = 15;
 
 /// What a command line asks for: the help, the version, or a subcommand with its options.
@@ -48,6 +48,8 @@ pub enum Job {
     Ask(AskJob),
     /// Fetch a file.
     Get(GetJob),
+    /// Store a file in a repository.
+    Put(PutJob),
 }
 
 /// Where a packet is sent, and the port from which it is sent.
@@ -205,6 +207,31 @@ pub struct GetJob {
     pub nonce: [u8; 4],
 }
 
+/// A file to store in a repository.
+#[derive(Drop)]
+pub struct PutJob {
+    /// The path of the file.
+    pub file: String,
+    /// The name of the file, with or without its version.
+    pub name: NameBuf,
+    /// The prefix of the repository.
+    pub repository: NameBuf,
+    /// The destination.
+    pub to: SocketAddr,
+    /// The source port. `None` means that the system chooses a port.
+    pub from: Option<u16>,
+    /// The FreshnessPeriod of the Data in milliseconds.
+    pub freshness: Option<u64>,
+    /// How often a command is sent again.
+    pub retries: u64,
+    /// The key of Data and commands. If no key is named, they are signed with DigestSha256.
+    pub key: KeyChoice,
+    /// The time of the clock, in milliseconds since 1970.
+    pub time: u64,
+    /// What the Nonce of the first command is computed from.
+    pub nonce: [u8; 4],
+}
+
 impl Job {
     ghost use Rattle.std.specs.Prelude.{◌≡◌, option_map};
     ghost use Rattle.ndn_jobs.specs.Job.{key_file_of, retried, retries_of};
@@ -221,6 +248,7 @@ impl Job {
             Job::Explain(job) => path_in(&job.keys),
             Job::Ask(job) => path_in(&job.keys),
             Job::Get(job) => path_in(&job.keys),
+            Job::Put(job) => job.key.path(),
             Job::Help(_) | Job::Show(_) | Job::Send(_) => None,
         }
     }
@@ -725,6 +753,39 @@ impl GetJob {
             lifetime: options::number(options, "lifetime")?,
             retries: retries.unwrap_or(USUAL_RETRIES),
             keys: options::path(alloc, options, "keys")?,
+            nonce: nonce_or(alloc, None, now, seed)?,
+        })
+    }
+}
+
+impl PutJob {
+    ghost use Rattle.ndn_jobs.specs.Value.{ReadsInMemory};
+    ghost use Rattle.ndn_jobs.specs.Options.{rows_in};
+    ghost use Rattle.ndn_jobs.specs.Put.{IsPutJob};
+
+    /// Returns the file that the options of the subcommand `put` describe. The Nonce is computed
+    /// from the time and `seed`.
+    pub fn read(
+        alloc: Global,
+        options: &ArgMatches<'_>,
+        now: u64,
+        seed: &[u8],
+    ) -> Result<PutJob, ToolFault>
+        ensures { ReadsInMemory (IsPutJob now seed.now (rows_in options.now)) result }
+    {
+        let to = options::required_endpoint(options, "to")?;
+        let from = options::port(options, "from")?;
+        let retries = options::number(options, "retries")?;
+        Ok(PutJob {
+            file: options::required_path(alloc, options, "FILE")?,
+            name: options::required_name(alloc, options, "URI")?,
+            repository: options::required_name(alloc, options, "repo")?,
+            to,
+            from,
+            freshness: options::number(options, "freshness")?,
+            retries: retries.unwrap_or(USUAL_RETRIES),
+            key: KeyChoice::read(alloc, options)?,
+            time: now,
             nonce: nonce_or(alloc, None, now, seed)?,
         })
     }

@@ -15,7 +15,7 @@ pub use command::parse_words;
 pub use fault::{ToolFault, Usage, refusal};
 pub use job::{
     AskJob, CommandJob, DataJob, ExplainJob, GetJob, InterestJob, Job, KeyChoice, LinkJob, Ports,
-    SendJob, Stamp, TagJob,
+    PutJob, SendJob, Stamp, TagJob,
 };
 pub use nonce::nonce_after;
 pub use token::{Token, token_octets};

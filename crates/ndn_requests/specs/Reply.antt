@@ -1,5 +1,5 @@
 -- Which datagram answers a request that was sent, and the outcome of the request.
-use Rattle.std.specs.Prelude.{◌≡◌, ℕ, List, [], ◌-◌, length, codes, bytes_eq, Option, None, Some, Result, Ok, Err, Bool, true, false, if◌then◌else◌, ◌==◌, ◌&&◌, ◌||◌, is_some, is_none, slice_get, option_and_then}
+use Rattle.std.specs.Prelude.{◌≡◌, ℕ, List, [], ◌-◌, length, codes, bytes_eq, Option, None, Some, Result, Ok, Err, Bool, true, false, if◌then◌else◌, ◌==◌, ◌&&◌, ◌||◌, is_some, is_none, slice_get, option_and_then, unwrap_or}
 use Rattle.std.specs.Result.{result_ok}
 use Rattle.sha2.specs.Sha256.{sha256}
 use Rattle.ndn_tlv.specs.Element.{Field}
@@ -37,6 +37,12 @@ code_in response kind content =
     option_and_then (λ value. result_ok (nni_at value))
     (option_and_then (λ fields. first_of kind (elements_of fields))
     (single response (elements_of content)))
+
+-- the number in a field of a repository's reply; no Content counts as an empty one
+abbrev pub repository_number : ℕ → Result PlainFrame PacketFault → Option ℕ
+repository_number kind (Ok (AData whole d)) =
+    code_in REPO_COMMAND_RESPONSE kind (unwrap_or d.content [])
+repository_number kind frame = None
 
 abbrev pub is_word : List ℕ → Option Field → Bool
 is_word word None = false

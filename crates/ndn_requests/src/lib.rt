@@ -17,4 +17,4 @@ pub use law::{
 };
 pub use names::{NodeList, action_name, list_name};
 pub use parameters::{Parameters, command_name};
-pub use reply::{Outcome, judge, put_explained, silence_of};
+pub use reply::{Outcome, judge, put_explained, repository_number, silence_of};

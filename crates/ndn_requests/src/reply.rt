@@ -5,7 +5,7 @@ ghost use Rattle.ndn_names.specs.View.{components, field_of};
 ghost use Rattle.ndn_packets.specs.View.{plain_frame, plain_interest, plain_data};
 ghost use Rattle.ndn_packets.specs.FrameReading.{frame_at};
 ghost use Rattle.ndn_explain.specs.Reply.{written_content};
-ghost use Rattle.ndn_requests.specs.Reply.{Outcome, code_in, is_insert, is_word, explained_lines, long_lines, written_lines, silence_of, is_local, done_if, node_outcome, repository_outcome, is_of_repository, content_outcome, reply_outcome, is_command, is_right, data_outcome, is_same, is_same_name, frame_outcome, written_outcome, IsFrameJudged, IsDatagramJudged, IsJudged};
+ghost use Rattle.ndn_requests.specs.Reply.{Outcome, code_in, is_insert, is_word, explained_lines, long_lines, written_lines, silence_of, is_local, done_if, node_outcome, repository_outcome, is_of_repository, content_outcome, reply_outcome, is_command, is_right, data_outcome, is_same, is_same_name, frame_outcome, written_outcome, IsFrameJudged, IsDatagramJudged, IsJudged, repository_number};
 
 use crate::fault::{Failure, Silence};
 use hmac_keys::KeyBook;
@@ -199,6 +199,20 @@ fn done_if(is_done: bool) -> Outcome
         Ok(())
     } else {
         Err(Failure::Refused)
+    }
+}
+
+/// Returns the number in the field of the type `kind` of a repository's reply, or `None` if the
+/// datagram is no Data, or has no such field.
+pub fn repository_number(datagram: &[u8], kind: u32) -> Option<u64>
+    ensures { result ≡ repository_number kind (frame_at datagram.now) }
+{
+    match read_frame(datagram) {
+        Ok(Frame::Data(packet)) => {
+            let content = packet.content.unwrap_or(&[]);
+            code_in(content, REPO_COMMAND_RESPONSE, kind)
+        }
+        _ => None,
     }
 }
 
