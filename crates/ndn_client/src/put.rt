@@ -12,7 +12,7 @@ use ndn_names::component_type::{GENERIC, VERSION};
 use ndn_names::{Name, NameBuf};
 use ndn_packets::WriteFault;
 use ndn_packets::command_types::{COUNT, REPO_STATUS_CODE};
-use ndn_requests::{Parameters, judge, put_explained, repository_number};
+use ndn_requests::{Failure, Parameters, judge, put_explained, repository_number};
 use ndn_segments::{CutFault, Cutter, USUAL_SIZE, segment_name, version_name};
 use ndn_tlv::nni_of;
 use std::alloc::Global;
@@ -39,6 +39,27 @@ const ATTEMPTS: usize = 4;
 /// How long to wait for its reply, in microseconds.
 const WAIT: u64 = 1_000_000;
 
+/// The status of a reply that a repository is full. It has room again when Data arrive that it waits
+/// for, or when it waits no longer.
+const FULL: u64 = 503;
+
+/// How long to wait for room in a repository, in microseconds.
+const PATIENCE: u64 = 30_000_000;
+
+/// A reply that a command was not done, as it is printed, and why.
+#[derive(Drop)]
+struct Refusal {
+    text: Vec<u8>,
+    failure: Failure,
+}
+
+/// A reply to the command for a segment. `refusal` is `None` if the command was done.
+#[derive(Drop)]
+struct Reply {
+    number: u64,
+    refusal: Option<Refusal>,
+}
+
 /// A segment whose command has no final reply yet.
 #[derive(Drop)]
 struct Waiting {
@@ -60,6 +81,10 @@ struct Putter<'a, R> {
     /// The command that was sent last.
     command: CommandJob,
     waiting: Vec<Waiting>,
+    /// The last reply, if it says that the repository is full.
+    full: Option<Refusal>,
+    /// The moment of the first such reply since the last other one, in microseconds.
+    full_since: u64,
 }
 
 /// Stores the file of a job in a repository, and prints its name with the version.
@@ -99,6 +124,8 @@ where
         book,
         command: insert_of(alloc, job)?,
         waiting: Vec::new(alloc),
+        full: None,
+        full_since: 0,
     };
     putter.run(u32::try_from(job.retries).unwrap_or(u32::MAX))?;
     let count = cutter.last().saturating_add(1);
@@ -162,6 +189,12 @@ fn no_file(alloc: Global, path: &str, kind: ErrorKind) -> Fault {
         Ok(path) => Fault::NoFile { path, kind },
         Err(_) => Fault::Tool(ToolFault::Memory),
     }
+}
+
+/// Prints a reply that a command was not done, and returns the fault.
+fn not_done(rt: &impl Print, refusal: &Refusal) -> Result<(), Fault> {
+    print(rt, &refusal.text)?;
+    Err(Fault::NotDone(refusal.failure))
 }
 
 fn fault_of_cut(fault: CutFault) -> Fault {
@@ -265,6 +298,9 @@ impl<'a, R: Clock + AllocGlobal + Print> Putter<'a, R> {
     /// Waits for a datagram, and takes it, or takes the losses of the commands whose time is out.
     fn step(&mut self, pipeline: &mut Pipeline) -> Result<(), Fault> {
         if let Some(number) = pipeline.gave_up() {
+            if let Some(refusal) = &self.full {
+                return not_done(self.rt, refusal);
+            }
             let name = self.name_of(number)?;
             return Err(unanswered(self.link.alloc(), name.view()));
         }
@@ -280,42 +316,66 @@ impl<'a, R: Clock + AllocGlobal + Print> Putter<'a, R> {
         Ok(())
     }
 
-    /// Takes a datagram of this length: a reply to a command, or something else, which is ignored.
+    /// Takes a datagram of this length: a reply to a command, or something else, which is ignored. If
+    /// the repository is full, the command is sent again when its time is out.
     fn take(&mut self, len: usize, pipeline: &mut Pipeline) -> Result<(), Fault> {
-        let Some(number) = self.answered_by(len)? else {
+        let Some(reply) = self.reply_in(len)? else {
             return Ok(());
         };
+        let number = reply.number;
         self.waiting.retain(|waiting| waiting.number != number);
-        pipeline.answered(number, self.link.moment()?);
         let status = repository_number(self.link.datagram(len), REPO_STATUS_CODE);
+        if let Some(refusal) = reply.refusal {
+            if status != Some(FULL) || !self.waits_for_room()? {
+                return not_done(self.rt, &refusal);
+            }
+            self.full = Some(refusal);
+            return Ok(());
+        }
+        self.full = None;
+        pipeline.answered(number, self.link.moment()?);
         if status == Some(200) {
             return Ok(());
         }
         self.send_data(number)
     }
 
-    /// Returns the segment whose command a datagram of this length answers.
-    fn answered_by(&self, len: usize) -> Result<Option<u64>, Fault> {
+    /// Returns whether the repository has been full for a time that is not too long.
+    fn waits_for_room(&mut self) -> Result<bool, Fault> {
+        let now = self.link.moment()?;
+        if self.full.is_none() {
+            self.full_since = now;
+        }
+        Ok(now.saturating_sub(self.full_since) <= PATIENCE)
+    }
+
+    /// Returns the reply to a command that a datagram of this length is.
+    fn reply_in(&self, len: usize) -> Result<Option<Reply>, Fault> {
         for waiting in &self.waiting {
-            if self.is_done(&waiting.request, len)? {
-                return Ok(Some(waiting.number));
+            if let Some(reply) = self.reply_to(waiting, len)? {
+                return Ok(Some(reply));
             }
         }
         Ok(None)
     }
 
-    /// Returns whether a datagram of this length says that a command was done. If it says that the
-    /// command was not done, prints the reply, and returns the fault.
-    fn is_done(&self, request: &[u8], len: usize) -> Result<bool, Fault> {
+    /// Returns the reply to the command for a segment, if a datagram of this length is one.
+    fn reply_to(&self, waiting: &Waiting, len: usize) -> Result<Option<Reply>, Fault> {
         let (alloc, datagram) = (self.link.alloc(), self.link.datagram(len));
-        match judge(alloc, request, datagram, self.book)? {
-            None => Ok(false),
-            Some(Ok(())) => Ok(true),
+        let number = waiting.number;
+        match judge(alloc, &waiting.request, datagram, self.book)? {
+            None => Ok(None),
+            Some(Ok(())) => Ok(Some(Reply {
+                number,
+                refusal: None,
+            })),
             Some(Err(failure)) => {
                 let mut text = Vec::new(alloc);
-                put_explained(alloc, &mut text, request, datagram)?;
-                print(self.rt, &text)?;
-                Err(Fault::NotDone(failure))
+                put_explained(alloc, &mut text, &waiting.request, datagram)?;
+                Ok(Some(Reply {
+                    number,
+                    refusal: Some(Refusal { text, failure }),
+                }))
             }
         }
     }
