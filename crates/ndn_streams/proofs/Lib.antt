@@ -1,0 +1,5 @@
+pub mod Sizes
+pub mod Packets
+pub mod Streams
+pub mod Calls
+pub mod Queues

@@ -1,0 +1,6 @@
+pub mod Packet
+pub mod Reading
+pub mod Stream
+pub mod Cutting
+pub mod Found
+pub mod Queue

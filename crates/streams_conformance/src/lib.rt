@@ -1,0 +1,9 @@
+//! Tests of cutting streams into packets, and of the packets that wait to be written.
+#![tactic(auto)]
+
+#[cfg(test)]
+mod cuts;
+#[cfg(test)]
+mod queues;
+#[cfg(test)]
+mod rows;
