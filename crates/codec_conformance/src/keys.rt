@@ -2,6 +2,7 @@
 
 use crate::rows::check_rows;
 use hmac_keys::*;
+use key_files::*;
 use ndn_names::NameBuf;
 use std::alloc::Global;
 use std::test::*;
@@ -121,15 +122,30 @@ fn found_in(alloc: Global, book: &KeyBook, uri: &str) -> Option<String> {
         return None;
     }
     let name = NameBuf::from_uri(alloc, uri).ok()?;
-    key_shown(alloc, book.len(), book.find(name.view()).unwrap_or(&[]))
+    let (word, octets) = key_with_word(book.key(name.view()));
+    if book.find(name.view()).is_some() != (word == "secret") {
+        return None;
+    }
+    key_shown(alloc, book.len(), word, octets)
 }
 
-fn key_shown(alloc: Global, len: usize, key: &[u8]) -> Option<String> {
-    if key.is_empty() {
-        return len.to_string(alloc).ok();
+/// Returns the octets of a key, and a word for what the key is for.
+fn key_with_word(key: Option<&Key>) -> (&'static str, &[u8]) {
+    match key {
+        None => ("none", &[]),
+        Some(Key::Hmac(key)) => ("secret", key.octets()),
+        Some(Key::Ecdsa(key)) => ("public", key.octets()),
     }
-    let key = hex::encode(alloc, key).ok()?;
-    format!(in alloc; "{len}: {key}").ok()
+}
+
+/// Returns the number of keys, and what `key_with_word` returned for one of them.
+fn key_shown(alloc: Global, len: usize, word: &str, octets: &[u8]) -> Option<String> {
+    let key = hex::encode(alloc, octets).ok()?;
+    match word {
+        "none" => len.to_string(alloc).ok(),
+        "secret" => format!(in alloc; "{len}: {key}").ok(),
+        _ => format!(in alloc; "{len}: {word} {key}").ok(),
+    }
 }
 
 /// Returns what `found` returns for the key file and the name in a row. A row has the form
@@ -185,6 +201,35 @@ ndn:/A/ 00 ? /A -> 1: 00
 ↵ -> 0
 ; -> 0
 ↵;↵↵ -> 0
+";
+    check_rows(&rt, rt.alloc(), rows, key_file);
+}
+
+/// Lines of public keys. The second key is the base point of the curve.
+#[test]
+fn public_keys(rt: HostRuntime) {
+    let rows = "
+/lab/KEY/1 ecdsa-p256 043f55a11ac5ad16b0250e8bd36df3cc1c694cc798543699c4a7554c93e78f1f3ac0337d6268aa54dcaaf5ac391f7599f78284f75f7e4ee5c741784fbcd8ea7514 ? /lab/KEY/1 -> 1: public 043f55a11ac5ad16b0250e8bd36df3cc1c694cc798543699c4a7554c93e78f1f3ac0337d6268aa54dcaaf5ac391f7599f78284f75f7e4ee5c741784fbcd8ea7514
+/A 01↵/B ecdsa-p256 046B17D1F2E12C4247F8BCE6E563A440F277037D812DEB33A0F4A13945D898C2964FE342E2FE1A7F9B8EE7EB4A7C0F9E162BCE33576B315ECECBB6406837BF51F5 ? /B -> 2: public 046b17d1f2e12c4247f8bce6e563a440f277037d812deb33a0f4a13945d898c2964fe342e2fe1a7f9b8ee7eb4a7c0f9e162bce33576b315ececbb6406837bf51f5
+/A 01↵/B ecdsa-p256 046b17d1f2e12c4247f8bce6e563a440f277037d812deb33a0f4a13945d898c2964fe342e2fe1a7f9b8ee7eb4a7c0f9e162bce33576b315ececbb6406837bf51f5 ? /A -> 2: 01
+# The last octet is another, so the point is not on the curve.
+/B ecdsa-p256 046b17d1f2e12c4247f8bce6e563a440f277037d812deb33a0f4a13945d898c2964fe342e2fe1a7f9b8ee7eb4a7c0f9e162bce33576b315ececbb6406837bf51f4 -> BadKey(1)
+# The compressed form.
+/B ecdsa-p256 036b17d1f2e12c4247f8bce6e563a440f277037d812deb33a0f4a13945d898c296 -> BadKey(1)
+# Without the word, spelled in another way, and with two spaces after it.
+/B 046b17d1f2e12c4247f8bce6e563a440f277037d812deb33a0f4a13945d898c2964fe342e2fe1a7f9b8ee7eb4a7c0f9e162bce33576b315ececbb6406837bf51f5 -> BadKey(1)
+/B ecdsa-P256 046b17d1f2e12c4247f8bce6e563a440f277037d812deb33a0f4a13945d898c2964fe342e2fe1a7f9b8ee7eb4a7c0f9e162bce33576b315ececbb6406837bf51f5 -> BadKey(1)
+/B ecdsa-p256  046b17d1f2e12c4247f8bce6e563a440f277037d812deb33a0f4a13945d898c2964fe342e2fe1a7f9b8ee7eb4a7c0f9e162bce33576b315ececbb6406837bf51f5 -> BadKey(1)
+/A 00↵/B ecdsa-p256 00 -> BadKey(2)
+/A 00↵/A ecdsa-p256 00 -> BadKey(2)
+/B ecdsa-p256  -> BadLine(1)
+/B ecdsa-p256 0 -> BadLine(1)
+ ecdsa-p256 00 -> BadLine(1)
+/ ecdsa-p256 00 -> BadLine(1)
+/A 00↵/A ecdsa-p256 046b17d1f2e12c4247f8bce6e563a440f277037d812deb33a0f4a13945d898c2964fe342e2fe1a7f9b8ee7eb4a7c0f9e162bce33576b315ececbb6406837bf51f5 -> TwiceNamed(2)
+# The word is a part of the URI if another word comes after it.
+/A ecdsa-p256 x 01 ? /A%20ecdsa-p256%20x -> 1: 01
+/ecdsa-p256 01 ? /ecdsa-p256 -> 1: 01
 ";
     check_rows(&rt, rt.alloc(), rows, key_file);
 }
@@ -291,6 +336,7 @@ fn keys_by_names(rt: HostRuntime) {
 fn fault_text(alloc: Global, fault: &str) -> Option<String> {
     let fault = match fault {
         "BadLine 7" => KeyFault::BadLine(7),
+        "BadKey 7" => KeyFault::BadKey(7),
         "TwiceNamed 8" => KeyFault::TwiceNamed(8),
         "TooMany" => KeyFault::TooMany,
         "Memory" => KeyFault::Memory,
@@ -304,6 +350,7 @@ fn fault_text(alloc: Global, fault: &str) -> Option<String> {
 fn texts_of_faults(rt: HostRuntime) {
     let rows = "
 BadLine 7 -> BadLine 7: line 7 does not have a name and the octets of a key, such as /ops/KEY/1 6b6579
+BadKey 7 -> BadKey 7: line 7: ecdsa-p256 and a public key of P-256, 130 digits that begin with 04, go together
 TwiceNamed 8 -> TwiceNamed 8: line 8 has the name of an earlier key, but each key needs its own name
 TooMany -> TooMany 0: a file has at most 256 keys
 Memory -> Memory 0: out of memory

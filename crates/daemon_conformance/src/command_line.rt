@@ -1,8 +1,8 @@
 //! Tests of the options in command lines of the program `ndn_node`, and of the messages of faults
 //! that no transcript of `crates/ndn_node/transcripts` shows.
 
-use hmac_keys::KeyFault;
 use info_rules::{RulesFault, RulesFaultKind};
+use key_files::KeyFault;
 use ndn_daemon::*;
 use std::alloc::Global;
 use test_support::first_misshown;

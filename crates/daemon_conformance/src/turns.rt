@@ -4,7 +4,7 @@ ghost use Rattle.std.specs.Prelude.{None};
 
 use crate::restarts::MemoryJournal;
 use crate::watched::{Once, no_rules};
-use hmac_keys::KeyBook;
+use key_files::KeyBook;
 use ndn_daemon::{LogLevel, LogSink, UdpOptions, run, run_restored};
 use ndn_log::Start;
 use ndn_names::NameBuf;

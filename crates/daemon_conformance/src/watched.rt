@@ -1,7 +1,7 @@
 //! Tests of ports that give new rules, and of the first events after a restart.
 ghost use Rattle.std.specs.Prelude.{⊤};
 
-use hmac_keys::KeyBook;
+use key_files::KeyBook;
 use ndn_daemon::{Fault, RuleSource, WatchedPorts};
 use node_core::{Event, RunFault, read_rules};
 use node_ports::{FileOctets, MemoryPorts, Ports, Renewal, RestartedPorts};

@@ -3,14 +3,16 @@ use Rattle.std.specs.Prelude.{ℕ, zero, suc, List, ◌++◌, codes}
 use Rattle.std.specs.Fmt.{decimal}
 use Rattle.std.specs.declared.io.ErrorKind.{ErrorKind}
 use Rattle.std.specs.declared.io.ErrorKind.TheVariants as kinds
-use Rattle.hmac_keys.specs.declared.fault.KeyFault.{KeyFault}
-use Rattle.hmac_keys.specs.declared.fault.KeyFault.TheVariants as keys
+use Rattle.key_files.specs.declared.fault.KeyFault.{KeyFault}
+use Rattle.key_files.specs.declared.fault.KeyFault.TheVariants as keys
 
 -- what is wrong in a key file, and how to correct it; `BadLine 0` means that the file is not UTF-8
 unfoldable pub advice_on_keys : KeyFault → List ℕ
 advice_on_keys (keys.BadLine zero) = codes "the file is not UTF-8 text: write it in UTF-8 or ASCII"
 advice_on_keys (keys.BadLine (suc line)) =
     codes "a line is a name, one space, and 1 to 256 octets in hexadecimal: /ops/KEY/1 6b6579"
+advice_on_keys (keys.BadKey line) = codes
+    "ecdsa-p256 and a public key of P-256, 130 digits that begin with 04, go together on a line"
 advice_on_keys (keys.TwiceNamed line) = codes "an earlier line has this name: give each name once"
 advice_on_keys keys.TooMany =
     codes "at most 256 keys are allowed: leave out those that no rule asks for"
@@ -23,6 +25,8 @@ advice_on_keys keys.Memory = codes "out of memory"
 abbrev pub key_text : KeyFault → List ℕ
 key_text (keys.BadLine line) = codes "keys:" ++ (decimal line ++ (codes ": BadLine\n  "
     ++ (advice_on_keys (keys.BadLine line) ++ codes "\n")))
+key_text (keys.BadKey line) = codes "keys:" ++ (decimal line ++ (codes ": BadKey\n  "
+    ++ (advice_on_keys (keys.BadKey line) ++ codes "\n")))
 key_text (keys.TwiceNamed line) = codes "keys:" ++ (decimal line ++ (codes ": TwiceNamed\n  "
     ++ (advice_on_keys (keys.TwiceNamed line) ++ codes "\n")))
 key_text keys.TooMany = codes "keys:0: TooMany\n  " ++ advice_on_keys keys.TooMany ++ codes "\n"

@@ -5,7 +5,7 @@
 ghost use Rattle.std.specs.Prelude.{◌≡◌, Some};
 ghost use Rattle.file_faults.specs.Advice.{advice_on_keys, cause_of, key_text};
 
-use hmac_keys::KeyFault;
+use key_files::KeyFault;
 use std::fmt;
 use std::io::ErrorKind;
 
@@ -24,6 +24,7 @@ impl fmt::Display for KeyMessage {
         let advice = advice_on_keys(fault);
         match fault {
             KeyFault::BadLine(line) => writeln!(f, "keys:{line}: BadLine\n  {advice}"),
+            KeyFault::BadKey(line) => writeln!(f, "keys:{line}: BadKey\n  {advice}"),
             KeyFault::TwiceNamed(line) => writeln!(f, "keys:{line}: TwiceNamed\n  {advice}"),
             KeyFault::TooMany => writeln!(f, "keys:0: TooMany\n  {advice}"),
             KeyFault::Memory => f.write_str("error: out of memory\n"),
@@ -40,6 +41,9 @@ fn advice_on_keys(fault: KeyFault) -> &'static str
         KeyFault::BadLine(0) => "the file is not UTF-8 text: write it in UTF-8 or ASCII",
         KeyFault::BadLine(_) => {
             "a line is a name, one space, and 1 to 256 octets in hexadecimal: /ops/KEY/1 6b6579"
+        }
+        KeyFault::BadKey(_) => {
+            "ecdsa-p256 and a public key of P-256, 130 digits that begin with 04, go together on a line"
         }
         KeyFault::TwiceNamed(_) => "an earlier line has this name: give each name once",
         KeyFault::TooMany => "at most 256 keys are allowed: leave out those that no rule asks for",

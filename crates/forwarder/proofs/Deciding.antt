@@ -2,7 +2,7 @@
 -- packet is the decision of the rules and keys, whether or not the packet is fresh.
 use Rattle.std.proofs.Common.{◌≡◌, ℕ, refl, List, Result, Ok, Err, sym, subst, inl}
 use Rattle.std.specs.Prelude.{IfOk, MatchResult, OnErr}
-use Rattle.hmac_keys.specs.KeyFile.{NamedKey}
+use Rattle.key_files.specs.KeyFile.{NamedKey}
 use Rattle.ndn_tlv.specs.declared.memory.Memory.{Memory}
 use Rattle.ndn_packets.specs.Packet.{PlainFrame, PlainData, AData}
 use Rattle.info_rules.specs.declared.decision.Decision.{Decision}

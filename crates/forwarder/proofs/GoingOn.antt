@@ -4,7 +4,7 @@ use Rattle.std.proofs.Common.{◌≡◌, ℕ, List, [], length, drop, Result, Ok
 use Rattle.std.specs.Prelude.{IfOk, OnErr}
 use Rattle.std.proofs.lemmas.List.{append-nil, drop_at}
 use Rattle.ndn_tlv.specs.declared.memory.Memory.{Memory}
-use Rattle.hmac_keys.specs.KeyFile.{NamedKey}
+use Rattle.key_files.specs.KeyFile.{NamedKey}
 use Rattle.info_rules.specs.Rule.{PlainRule}
 use Rattle.pit_fib.specs.Records.{Pending, HoldsTheLiving, records_at}
 use Rattle.forwarder.specs.declared.verdict.Verdict as code

@@ -4,7 +4,7 @@ use Rattle.std.proofs.Common.{◌≡◌, ℕ, true, List, length, drop, refl, su
 use Rattle.std.specs.Prelude.{◌⊎◌, All, Contains}
 use Rattle.std.proofs.lemmas.List.Elements.{All-cons, All-head, All-tail}
 use Rattle.ndn_tlv.specs.Element.{Field}
-use Rattle.hmac_keys.specs.KeyFile.{NamedKey}
+use Rattle.key_files.specs.KeyFile.{NamedKey}
 use Rattle.info_rules.specs.Rule.{PlainRule}
 use Rattle.ndn_packets.specs.FrameReading.{frame_at}
 use Rattle.ndn_packets.specs.Packet.{PlainData, PlainFrame, AnInterest, AData, ANack, Idle}

@@ -5,7 +5,7 @@
 use Rattle.std.proofs.Common.{◌≡◌, ℕ, Bool, true, false, List, refl, sym, ap, subst, ◌∙◌, Result, Ok, Err}
 use Rattle.std.specs.Prelude.{Option, nat_le}
 use Rattle.std.specs.FinMap as map
-use Rattle.hmac_keys.specs.KeyFile.{AreApart}
+use Rattle.key_files.specs.KeyFile.{AreApart}
 use Rattle.ndn_packets.specs.Key.{PlainKey}
 use Rattle.pit_fib.specs.declared.pit.TheConstants.{MAX_PENDING}
 use Rattle.pit_fib.specs.Records.{Records, records_at}

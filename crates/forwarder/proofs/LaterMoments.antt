@@ -11,7 +11,7 @@ use Rattle.std.specs.FinMap.{same_map}
 use Rattle.std.specs.List.{All}
 use Rattle.std.proofs.lemmas.List.Elements.{All-cons, All-head, All-nil, All-tail}
 use Rattle.ndn_tlv.specs.Element.{Field}
-use Rattle.hmac_keys.specs.KeyFile.{AreApart, NamedKey}
+use Rattle.key_files.specs.KeyFile.{AreApart, NamedKey}
 use Rattle.info_rules.specs.Rule.{PlainRule}
 use Rattle.ndn_packets.specs.Packet.{PlainInterest, PlainFrame, AnInterest, AData, ANack, Idle}
 use Rattle.info_rules.specs.declared.decision.Decision.{Decision}

@@ -7,7 +7,7 @@ use Rattle.std.specs.FinMap.{get-insert}
 use Rattle.std.specs.Ordering.{eq_by_cmp}
 use Rattle.std.specs.List.{All, AllByRecursion}
 use Rattle.std.proofs.lemmas.List.Elements.{All-cons, All-head, All-nil, All-tail, All-weaker}
-use Rattle.hmac_keys.specs.KeyFile.{AreApart}
+use Rattle.key_files.specs.KeyFile.{AreApart}
 use Rattle.ndn_packets.specs.Packet.{PlainSignature, PlainInterest, PlainFrame, AnInterest, AData, ANack, Idle}
 use Rattle.info_rules.specs.declared.rules.RuleNo.{RuleNo}
 use Rattle.info_rules.specs.declared.decision.Decision.{Decision}

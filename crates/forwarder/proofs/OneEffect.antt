@@ -2,7 +2,7 @@
 -- is a function of the policy before the event and of the event.
 use Rattle.std.proofs.Common.{◌≡◌, sym, ap, ◌∙◌, inl, inr}
 use Rattle.std.specs.Prelude.{Option, Some, None}
-use Rattle.hmac_keys.specs.KeyFile.{AreApart}
+use Rattle.key_files.specs.KeyFile.{AreApart}
 use Rattle.ndn_packets.specs.Packet.{PlainFrame}
 use Rattle.info_rules.specs.declared.decision.Decision.{Decision}
 use Rattle.info_rules.specs.declared.decision.Decision.TheVariants.{Allowed, Denied, NoRule}

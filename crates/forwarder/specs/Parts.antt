@@ -4,7 +4,7 @@ use Rattle.std.specs.Cmp.Lexicographic.{pointwise}
 use Rattle.ndn_tlv.specs.Element.{Field}
 use Rattle.ndn_names.specs.declared.component_type.TheConstants.{GENERIC}
 use Rattle.std.specs.FinMap as map
-use Rattle.hmac_keys.specs.KeyFile.{NamedKey}
+use Rattle.key_files.specs.KeyFile.{NamedKey}
 use Rattle.info_rules.specs.Rule.{PlainRule}
 use Rattle.forwarder.specs.Policy.{first_policy}
 use Rattle.forwarder.specs.Node.{NodeState}

@@ -3,7 +3,7 @@
 -- and the cache of a node with a run.
 use Rattle.std.specs.Prelude.{◌≡◌, ◌⊎◌, ℕ, Bool, true, false, List, [], ◌∷◌, ◌++◌, Option, None, Some, All, Result, Ok, Err, max, nat_le, ⊤}
 use Rattle.std.specs.FinMap as map
-use Rattle.hmac_keys.specs.KeyFile.{AreApart, NamedKey}
+use Rattle.key_files.specs.KeyFile.{AreApart, NamedKey}
 use Rattle.info_rules.specs.Rule.{PlainRule}
 use Rattle.ndn_packets.specs.FrameReading.{frame_at}
 use Rattle.ndn_packets.specs.Key.{PlainKey}

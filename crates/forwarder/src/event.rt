@@ -1,10 +1,10 @@
 ghost use Rattle.std.specs.Prelude.{◌≡◌, List};
-ghost use Rattle.hmac_keys.specs.KeyFile.{NamedKey};
+ghost use Rattle.key_files.specs.KeyFile.{NamedKey};
 ghost use Rattle.info_rules.specs.Rule.{PlainRule};
 ghost use Rattle.forwarder.specs.Event.{at, moment_of, plain_by};
 
-use hmac_keys::KeyBook;
 use info_rules::Rules;
+use key_files::KeyBook;
 
 /// Where a face leads (NFD Developer's Guide, "Face Scope"). A `Local` face leads to a program on
 /// this machine. A `Far` face leads to another machine.

@@ -8,8 +8,8 @@ ghost use Rattle.forwarder.specs.Commands.{with_record};
 ghost use Rattle.forwarder.specs.Policy.{Policy};
 ghost use Rattle.forwarder.specs.Deciding.{IsFreshCommand, IsDecidedAs, recorded_by, recorded_of, signer_in};
 
-use hmac_keys::KeyBook;
 use info_rules::{Decision, Packet, Reason, Rules};
+use key_files::KeyBook;
 use ndn_packets::{DIGEST_SHA256, Data, Interest, Locator, Signature};
 use ndn_tlv::Memory;
 use replay_guard::{Guard, Signer};

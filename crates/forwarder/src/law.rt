@@ -1,6 +1,6 @@
 ghost use Rattle.std.specs.Prelude.{◌≡◌, ◌≢◌, ◌⊎◌, ◌↔◌, ◌<◌, ℕ, List, [], true, Some, All, Contains, Ok, max};
 ghost use Rattle.std.specs.FinMap as map;
-ghost use Rattle.hmac_keys.specs.KeyFile.{AreApart, NamedKey};
+ghost use Rattle.key_files.specs.KeyFile.{AreApart, NamedKey};
 ghost use Rattle.info_rules.specs.Rule.{PlainRule};
 ghost use Rattle.forwarder.specs.Event.{PlainEvent};
 ghost use Rattle.forwarder.specs.Headline.{Headline, IsNodeRun};

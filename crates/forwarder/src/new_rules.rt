@@ -1,6 +1,6 @@
 //! The replacement of rules and keys.
 ghost use Rattle.std.specs.Prelude.{[]};
-ghost use Rattle.hmac_keys.specs.KeyFile.{AreApart};
+ghost use Rattle.key_files.specs.KeyFile.{AreApart};
 ghost use Rattle.forwarder.specs.Event.{NewRules};
 ghost use Rattle.forwarder.specs.Node.{IsStep};
 ghost use Rattle.forwarder.specs.State.{state_of};
@@ -8,8 +8,8 @@ ghost use Rattle.forwarder.specs.Verdict.{verdict_of};
 
 use crate::state::State;
 use crate::verdict::Verdict;
-use hmac_keys::KeyBook;
 use info_rules::Rules;
+use key_files::KeyBook;
 
 impl State {
     /// Advances time to the moment `now`, and then puts these rules and keys in force. Nothing else

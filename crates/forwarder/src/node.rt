@@ -1,5 +1,5 @@
 ghost use Rattle.std.specs.Prelude.{◌≡◌, ◌++◌, List, length, drop, Err, IfOk, IfErr, IsTrue, OnErr, IsOk, MatchOption, slice_get};
-ghost use Rattle.hmac_keys.specs.KeyFile.{NamedKey};
+ghost use Rattle.key_files.specs.KeyFile.{NamedKey};
 ghost use Rattle.info_rules.specs.Rule.{PlainRule};
 ghost use Rattle.ndn_tlv.specs.Element.{Field};
 ghost use Rattle.content_store.specs.Store.{IsStore};
@@ -19,8 +19,8 @@ use crate::outbox::Outbox;
 use crate::state::State;
 use crate::verdict::Verdict;
 use content_store::{Store, StoreFault};
-use hmac_keys::KeyBook;
 use info_rules::Rules;
+use key_files::KeyBook;
 use mgmt_core::Tables;
 use ndn_names::NameBuf;
 use ndn_names::component_type::GENERIC;

@@ -3,8 +3,8 @@ ghost use Rattle.forwarder.specs.Policy.{HasSameParts, HasSameTables};
 ghost use Rattle.forwarder.specs.State.{IsLater, policy_of, state_of};
 
 use crate::open_faces::OpenFaces;
-use hmac_keys::KeyBook;
 use info_rules::Rules;
+use key_files::KeyBook;
 use mgmt_core::Tables;
 use ndn_tlv::Memory;
 use pit_fib::Pit;

@@ -1,8 +1,1 @@
 pub mod Tags
-pub mod Lines
-pub mod Digits
-pub mod Keys
-pub mod Books
-pub mod Files
-pub mod FaultyLines
-pub mod KeyChecks

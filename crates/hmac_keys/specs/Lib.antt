@@ -1,9 +1,2 @@
 pub mod Mac
 pub mod Started
-pub mod KeyFile
-pub mod KeyReading
-pub mod KeyCheck
-pub mod FirstFault
-pub mod LineFault
-pub mod FaultName
-pub mod Shown

@@ -5,7 +5,7 @@ use Rattle.std.proofs.lemmas.Bool.{cases_lt}
 use Rattle.std.proofs.lemmas.List.{get_or-take, length-take}
 use Rattle.std.proofs.lemmas.Option.{get_or_from_slice_get}
 use Rattle.ndn_tlv.specs.Element.{Field}
-use Rattle.hmac_keys.specs.KeyFile.{NamedKey, AreApart}
+use Rattle.key_files.specs.KeyFile.{NamedKey, AreApart}
 use Rattle.ndn_packets.specs.Packet.{PlainSignature, PlainFrame, AnInterest, AData, ANack, Idle}
 use Rattle.ndn_packets.specs.Covered.{Covered}
 use Rattle.ndn_packets.proofs.Covers.{one_covered}

@@ -2,7 +2,7 @@
 -- (`frame_of`). If a decision on the packet may need memory, the decision on the frame may too.
 use Rattle.std.proofs.Common.{◌≡◌, ℕ, List, get_or, subst, sym}
 use Rattle.std.specs.Prelude.{Result, Ok, Err, IfOk, MatchResult}
-use Rattle.hmac_keys.specs.KeyFile.{NamedKey}
+use Rattle.key_files.specs.KeyFile.{NamedKey}
 use Rattle.ndn_tlv.specs.Element.{Field}
 use Rattle.info_rules.specs.declared.rule.Kind.{Kind}
 use Rattle.info_rules.specs.declared.decision.Decision.{Decision}

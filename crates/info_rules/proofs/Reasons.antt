@@ -2,7 +2,7 @@
 use Rattle.std.proofs.Common.{◌≡◌, ℕ, ◌+◌, ◌<◌, ◌≤◌, List, [], ◌∷◌, length, get_or, subst, sym, ap, ◌∙◌, inl, inr, arith, below_more}
 use Rattle.std.specs.Prelude.{Option, Some, None, unwrap_or}
 use Rattle.std.proofs.lemmas.List.{get_or_default}
-use Rattle.hmac_keys.specs.KeyFile.{NamedKey}
+use Rattle.key_files.specs.KeyFile.{NamedKey}
 use Rattle.info_rules.specs.declared.rule.Checker.{Checker}
 use Rattle.info_rules.specs.declared.decision.Reason.{Reason}
 use Rattle.info_rules.specs.declared.decision.Reason.TheVariants as reasons

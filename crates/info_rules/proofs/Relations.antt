@@ -8,7 +8,7 @@ use Rattle.ndn_tlv.specs.Element.{Field}
 use Rattle.ndn_names.specs.Name.{IsPrefix}
 use Rattle.ndn_names.specs.Order.{IsProperPrefix, name_cmp}
 use Rattle.ndn_names.proofs.OrderLaws.{name_cmp-equal}
-use Rattle.hmac_keys.proofs.Books.{one_name}
+use Rattle.key_files.proofs.Books.{one_name}
 use Rattle.name_patterns.specs.Pattern.{PlainPattern}
 use Rattle.name_patterns.specs.Match.{HasNoSplit, Match}
 

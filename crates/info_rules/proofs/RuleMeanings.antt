@@ -8,12 +8,13 @@ use Rattle.info_rules.specs.declared.rule.Kind.{Kind}
 use Rattle.info_rules.specs.declared.rule.Kind.TheVariants as packets
 use Rattle.info_rules.specs.declared.rule.LocatorTest.{LocatorTest}
 use Rattle.info_rules.specs.declared.rule.LocatorTest.TheVariants as locators
+use Rattle.info_rules.specs.declared.rule.Algorithm.TheVariants as algorithms
 use Rattle.info_rules.specs.declared.rule.Checker.{Checker}
 use Rattle.info_rules.specs.declared.rule.Checker.TheVariants as checkers
 use Rattle.info_rules.specs.declared.value_words.CheckerType.{CheckerType}
 use Rattle.info_rules.specs.declared.value_words.CheckerType.TheVariants.{Customized, Hierarchical, Unverified}
 use Rattle.info_rules.specs.declared.value_words.SignatureType.{SignatureType}
-use Rattle.info_rules.specs.declared.value_words.SignatureType.TheVariants.{HmacSha256, Sha256, Asymmetric}
+use Rattle.info_rules.specs.declared.value_words.SignatureType.TheVariants.{HmacSha256, EcdsaSha256, Sha256, RsaSha256}
 use Rattle.info_rules.specs.Blocks as blocks
 use Rattle.info_rules.specs.Tree.{Block, blocks_of}
 use Rattle.info_rules.specs.Table.{table}
@@ -27,7 +28,7 @@ use Rattle.info_rules.specs.Values.{value_in}
 use Rattle.info_rules.specs.LocatorBlock.{locator_in}
 use Rattle.info_rules.specs.CheckerBlock.{is_hierarchical, block_of, has_locator, locator_of, checker_with, checker_typed, checker_made, unverified_fault, checker_of, checker_in}
 use Rattle.info_rules.specs.RuleBlock.{states_unverified, further_fault}
-use Rattle.info_rules.specs.Meaning.{IsOneOf, HasOnly, Lacks, HasValue, HasBlock, Mean, IsKind, IsLocator, TakesDigest, TakesAsymmetric, AsksAsTold, AsksByHierarchy, AsksNothing, AsksOfSignature, IsChecker, StandAlone}
+use Rattle.info_rules.specs.Meaning.{IsOneOf, HasOnly, Lacks, HasValue, HasBlock, Mean, IsKind, IsLocator, TakesDigest, TakesRsa, AsksAsTold, AsksByHierarchy, AsksNothing, AsksOfSignature, IsChecker, StandAlone}
 use Rattle.info_rules.proofs.FoundParts.{both_ok, beside_ok, shown_ok, made_ok, needed_ok}
 use Rattle.info_rules.proofs.Limits.{none_of_both}
 use Rattle.info_rules.proofs.Meanings.{shown_again, lacks, only_of, only_first, fits, fits_again, says_is, has, has_again, has_once, lacks_there, lacks_read, lacks_again, lacks_once, block_ok, block_again, block_there, first_gave, none_gave, one_again, none_again, one_once}
@@ -41,13 +42,14 @@ abbrev Takes : Option SignatureType → List Block → Type 0
 Takes None keys = Lacks (codes "sig-type") keys
 Takes (Some HmacSha256) keys = HasValue (codes "sig-type") keys (codes "hmac-sha256")
 Takes (Some Sha256) keys = TakesDigest keys
-Takes (Some Asymmetric) keys = TakesAsymmetric keys
+Takes (Some EcdsaSha256) keys = HasValue (codes "sig-type") keys (codes "ecdsa-sha256")
+Takes (Some RsaSha256) keys = TakesRsa keys
 
 takes_text : (keys : List Block) (type : SignatureType) (text : List ℕ) → HasValue (codes "sig-type") keys text → IsSignatureType text type → Takes (Some type) keys
 takes_text keys HmacSha256 text h is = subst (HasValue (codes "sig-type") keys) is h
 takes_text keys Sha256 text h is = subst (HasValue (codes "sig-type") keys) is h
-takes_text keys Asymmetric text h (inl is) = inl (subst (HasValue (codes "sig-type") keys) is h)
-takes_text keys Asymmetric text h (inr is) = inr (subst (HasValue (codes "sig-type") keys) is h)
+takes_text keys EcdsaSha256 text h is = subst (HasValue (codes "sig-type") keys) is h
+takes_text keys RsaSha256 text h is = subst (HasValue (codes "sig-type") keys) is h
 
 takes : (keys : List Block) (type : Option SignatureType) → others_of (named (codes "sig-type") keys) ≡ [] → value_in kinds.BadValue signature_type_in (codes "sig-type") keys ≡ Ok type → Takes type keys
 takes keys None once e = lacks_read kinds.BadValue signature_type_in (codes "sig-type") keys e
@@ -62,15 +64,15 @@ taken : (keys : List Block) (type : Option SignatureType) → Takes type keys �
 taken keys None h = lacks_again kinds.BadValue signature_type_in (codes "sig-type") keys h
 taken keys (Some HmacSha256) h = read_again keys HmacSha256 (codes "hmac-sha256") h refl
 taken keys (Some Sha256) h = read_again keys Sha256 (codes "sha256") h refl
-taken keys (Some Asymmetric) (inl h) = read_again keys Asymmetric (codes "rsa-sha256") h (inl refl)
-taken keys (Some Asymmetric) (inr h) = read_again keys Asymmetric (codes "ecdsa-sha256") h (inr refl)
+taken keys (Some EcdsaSha256) h = read_again keys EcdsaSha256 (codes "ecdsa-sha256") h refl
+taken keys (Some RsaSha256) h = read_again keys RsaSha256 (codes "rsa-sha256") h refl
 
 taken_once : (keys : List Block) (type : Option SignatureType) → Takes type keys → others_of (named (codes "sig-type") keys) ≡ []
 taken_once keys None h = lacks_once (codes "sig-type") keys h
 taken_once keys (Some HmacSha256) h = has_once (codes "sig-type") keys (codes "hmac-sha256") h
 taken_once keys (Some Sha256) h = has_once (codes "sig-type") keys (codes "sha256") h
-taken_once keys (Some Asymmetric) (inl h) = has_once (codes "sig-type") keys (codes "rsa-sha256") h
-taken_once keys (Some Asymmetric) (inr h) = has_once (codes "sig-type") keys (codes "ecdsa-sha256") h
+taken_once keys (Some EcdsaSha256) h = has_once (codes "sig-type") keys (codes "ecdsa-sha256") h
+taken_once keys (Some RsaSha256) h = has_once (codes "sig-type") keys (codes "rsa-sha256") h
 
 -- the parts of a checker that was read without a fault
 record IsRead (for_interests : Bool) (line : ℕ) (keys : List Block) (checker : Checker) : Type 0 where
@@ -159,10 +161,11 @@ type_has keys type word once is e =
     subst (HasValue (codes "type") keys) (is given.0 (checker_type_means given.0 type given.2)) given.1
 
 by_hierarchy : (line : ℕ) (keys : List Block) (checker : Checker) (signature : Option SignatureType) → Takes signature keys → checker_with line signature (Some locators.Hierarchical) ≡ Ok checker → AsksByHierarchy keys checker
-by_hierarchy line keys checker None h e = subst (AsksByHierarchy keys) (ok_one (Ok (checkers.HmacSha256 locators.Hierarchical)) (checkers.HmacSha256 locators.Hierarchical) checker refl e) (inl h, refl)
-by_hierarchy line keys checker (Some HmacSha256) h e = subst (AsksByHierarchy keys) (ok_one (Ok (checkers.HmacSha256 locators.Hierarchical)) (checkers.HmacSha256 locators.Hierarchical) checker refl e) (inr h, refl)
+by_hierarchy line keys checker None h e = subst (AsksByHierarchy keys) (ok_one (Ok (checkers.Keyed algorithms.HmacSha256 locators.Hierarchical)) (checkers.Keyed algorithms.HmacSha256 locators.Hierarchical) checker refl e) (inl h, refl)
+by_hierarchy line keys checker (Some HmacSha256) h e = subst (AsksByHierarchy keys) (ok_one (Ok (checkers.Keyed algorithms.HmacSha256 locators.Hierarchical)) (checkers.Keyed algorithms.HmacSha256 locators.Hierarchical) checker refl e) (inr h, refl)
+by_hierarchy line keys checker (Some EcdsaSha256) h e = subst (AsksByHierarchy keys) (ok_one (Ok (checkers.Keyed algorithms.EcdsaSha256 locators.Hierarchical)) (checkers.Keyed algorithms.EcdsaSha256 locators.Hierarchical) checker refl e) (h, refl)
 by_hierarchy line keys checker (Some Sha256) h e = subst (AsksByHierarchy keys) (ok_one (Ok checkers.Sha256) checkers.Sha256 checker refl e) h
-by_hierarchy line keys checker (Some Asymmetric) h e = subst (AsksByHierarchy keys) (ok_one (Ok checkers.Unsupported) checkers.Unsupported checker refl e) h
+by_hierarchy line keys checker (Some RsaSha256) h e = subst (AsksByHierarchy keys) (ok_one (Ok checkers.Unsupported) checkers.Unsupported checker refl e) h
 
 locator_has : (keys : List Block) (tests : List LocatorTest) (test : LocatorTest) → others_of (named (codes "key-locator") keys) ≡ [] → each locator_in (named (codes "key-locator") keys) ≡ Ok tests → first_of tests ≡ Some test → HasBlock IsLocator (codes "key-locator") keys test
 locator_has keys tests test once e is = let gave = first_gave locator_in (codes "key-locator") keys tests test once e is in (gave.0, gave.1, locator_means gave.0 test gave.2)
@@ -174,16 +177,19 @@ as_told : (line : ℕ) (keys : List Block) (checker : Checker) (tests : List Loc
     → missing_unless (has_locator keys (Ok (Some Customized)) (Ok signature)) line ≡ None → (first : Option LocatorTest) → first_of tests ≡ first → checker_with line signature first ≡ Ok checker → AsksAsTold keys checker
 as_told line keys checker tests None h once e there None is made = absurd cc
 as_told line keys checker tests None h once e there (Some test) is made =
-    subst (AsksAsTold keys) (ok_one (Ok (checkers.HmacSha256 test)) (checkers.HmacSha256 test) checker refl made) (inl h, locator_has keys tests test once e is)
+    subst (AsksAsTold keys) (ok_one (Ok (checkers.Keyed algorithms.HmacSha256 test)) (checkers.Keyed algorithms.HmacSha256 test) checker refl made) (inl h, locator_has keys tests test once e is)
 as_told line keys checker tests (Some HmacSha256) h once e there None is made = absurd cc
 as_told line keys checker tests (Some HmacSha256) h once e there (Some test) is made =
-    subst (AsksAsTold keys) (ok_one (Ok (checkers.HmacSha256 test)) (checkers.HmacSha256 test) checker refl made) (inr h, locator_has keys tests test once e is)
+    subst (AsksAsTold keys) (ok_one (Ok (checkers.Keyed algorithms.HmacSha256 test)) (checkers.Keyed algorithms.HmacSha256 test) checker refl made) (inr h, locator_has keys tests test once e is)
+as_told line keys checker tests (Some EcdsaSha256) h once e there None is made = absurd cc
+as_told line keys checker tests (Some EcdsaSha256) h once e there (Some test) is made =
+    subst (AsksAsTold keys) (ok_one (Ok (checkers.Keyed algorithms.EcdsaSha256 test)) (checkers.Keyed algorithms.EcdsaSha256 test) checker refl made) (h, locator_has keys tests test once e is)
 as_told line keys checker tests (Some Sha256) h once e there None is made =
     subst (AsksAsTold keys) (ok_one (Ok checkers.Sha256) checkers.Sha256 checker refl made) (h, inl (none_gave locator_in (codes "key-locator") keys tests e is))
 as_told line keys checker tests (Some Sha256) h once e there (Some test) is made =
     subst (AsksAsTold keys) (ok_one (Ok checkers.Sha256) checkers.Sha256 checker refl made) (h, inr (test, locator_has keys tests test once e is))
-as_told line keys checker tests (Some Asymmetric) h once e there None is made = absurd (not_missing keys line there (none_gave locator_in (codes "key-locator") keys tests e is))
-as_told line keys checker tests (Some Asymmetric) h once e there (Some test) is made =
+as_told line keys checker tests (Some RsaSha256) h once e there None is made = absurd (not_missing keys line there (none_gave locator_in (codes "key-locator") keys tests e is))
+as_told line keys checker tests (Some RsaSha256) h once e there (Some test) is made =
     subst (AsksAsTold keys) (ok_one (Ok checkers.Unsupported) checkers.Unsupported checker refl made) (h, (test, locator_has keys tests test once e is))
 
 told : (for_interests : Bool) (kind : Kind) → for_interests ≡ is_interest kind → (line : ℕ) (keys : List Block) (checker : Checker) (type : CheckerType) (signature : Option SignatureType) (test : Option LocatorTest) → value_in kinds.BadValue checker_type_in (codes "type") keys ≡ Ok (Some type)
@@ -255,20 +261,22 @@ located for_interests line keys checker signature test only type h block there m
 
 as_customized : (for_interests : Bool) (line : ℕ) (keys : List Block) (checker : Checker) → HasOnly (codes "type" ∷ codes "sig-type" ∷ codes "key-locator" ∷ []) keys → HasValue (codes "type") keys (codes "customized") → AsksAsTold keys checker
     → checker_of for_interests line keys ≡ Ok checker
-as_customized for_interests line keys (checkers.HmacSha256 test) only type (inl h, block) = located for_interests line keys (checkers.HmacSha256 test) None test only type h block (block_there (codes "key-locator") keys block.0 block.1) refl
-as_customized for_interests line keys (checkers.HmacSha256 test) only type (inr h, block) = located for_interests line keys (checkers.HmacSha256 test) (Some HmacSha256) test only type h block (block_there (codes "key-locator") keys block.0 block.1) refl
+as_customized for_interests line keys (checkers.Keyed algorithms.HmacSha256 test) only type (inl h, block) = located for_interests line keys (checkers.Keyed algorithms.HmacSha256 test) None test only type h block (block_there (codes "key-locator") keys block.0 block.1) refl
+as_customized for_interests line keys (checkers.Keyed algorithms.HmacSha256 test) only type (inr h, block) = located for_interests line keys (checkers.Keyed algorithms.HmacSha256 test) (Some HmacSha256) test only type h block (block_there (codes "key-locator") keys block.0 block.1) refl
+as_customized for_interests line keys (checkers.Keyed algorithms.EcdsaSha256 test) only type (h, block) = located for_interests line keys (checkers.Keyed algorithms.EcdsaSha256 test) (Some EcdsaSha256) test only type h block (block_there (codes "key-locator") keys block.0 block.1) refl
 as_customized for_interests line keys checkers.Sha256 only type (h, inl none) =
     customized for_interests line keys checkers.Sha256 (Some Sha256) [] only type h (lacks_once (codes "key-locator") keys none) (none_again locator_in (codes "key-locator") keys none) refl refl
 as_customized for_interests line keys checkers.Sha256 only type (h, inr (test, block)) = located for_interests line keys checkers.Sha256 (Some Sha256) test only type h block refl refl
-as_customized for_interests line keys checkers.Unsupported only type (h, (test, block)) = located for_interests line keys checkers.Unsupported (Some Asymmetric) test only type h block (block_there (codes "key-locator") keys block.0 block.1) refl
+as_customized for_interests line keys checkers.Unsupported only type (h, (test, block)) = located for_interests line keys checkers.Unsupported (Some RsaSha256) test only type h block (block_there (codes "key-locator") keys block.0 block.1) refl
 as_customized for_interests line keys checkers.Unverified only type h = absurd h
 
 as_hierarchical : (for_interests : Bool) (line : ℕ) (keys : List Block) (checker : Checker) → HasOnly (codes "type" ∷ codes "sig-type" ∷ []) keys → HasValue (codes "type") keys (codes "hierarchical") → AsksByHierarchy keys checker
     → checker_of for_interests line keys ≡ Ok checker
-as_hierarchical for_interests line keys (checkers.HmacSha256 test) only type (inl h, is) = hierarchical for_interests line keys (checkers.HmacSha256 test) None only type h (ap (λ (t : LocatorTest). Ok (checkers.HmacSha256 t)) (sym is))
-as_hierarchical for_interests line keys (checkers.HmacSha256 test) only type (inr h, is) = hierarchical for_interests line keys (checkers.HmacSha256 test) (Some HmacSha256) only type h (ap (λ (t : LocatorTest). Ok (checkers.HmacSha256 t)) (sym is))
+as_hierarchical for_interests line keys (checkers.Keyed algorithms.HmacSha256 test) only type (inl h, is) = hierarchical for_interests line keys (checkers.Keyed algorithms.HmacSha256 test) None only type h (ap (λ (t : LocatorTest). Ok (checkers.Keyed algorithms.HmacSha256 t)) (sym is))
+as_hierarchical for_interests line keys (checkers.Keyed algorithms.HmacSha256 test) only type (inr h, is) = hierarchical for_interests line keys (checkers.Keyed algorithms.HmacSha256 test) (Some HmacSha256) only type h (ap (λ (t : LocatorTest). Ok (checkers.Keyed algorithms.HmacSha256 t)) (sym is))
+as_hierarchical for_interests line keys (checkers.Keyed algorithms.EcdsaSha256 test) only type (h, is) = hierarchical for_interests line keys (checkers.Keyed algorithms.EcdsaSha256 test) (Some EcdsaSha256) only type h (ap (λ (t : LocatorTest). Ok (checkers.Keyed algorithms.EcdsaSha256 t)) (sym is))
 as_hierarchical for_interests line keys checkers.Sha256 only type h = hierarchical for_interests line keys checkers.Sha256 (Some Sha256) only type h refl
-as_hierarchical for_interests line keys checkers.Unsupported only type h = hierarchical for_interests line keys checkers.Unsupported (Some Asymmetric) only type h refl
+as_hierarchical for_interests line keys checkers.Unsupported only type h = hierarchical for_interests line keys checkers.Unsupported (Some RsaSha256) only type h refl
 as_hierarchical for_interests line keys checkers.Unverified only type h = absurd h
 
 one_among : (word second third other : List ℕ) → IsOneOf (word ∷ []) other → IsOneOf (word ∷ second ∷ third ∷ []) other
@@ -312,13 +320,13 @@ for_is keys text packets.Interest h is = says_is (codes "for") (codes "interest"
 
 told_verified : (keys : List Block) (checker : Checker) → AsksAsTold keys checker → false ≡ is_unverified checker
 told_verified keys checkers.Sha256 h = refl
-told_verified keys (checkers.HmacSha256 test) h = refl
+told_verified keys (checkers.Keyed algorithm test) h = refl
 told_verified keys checkers.Unsupported h = refl
 told_verified keys checkers.Unverified h = absurd h
 
 hierarchy_verified : (keys : List Block) (checker : Checker) → AsksByHierarchy keys checker → false ≡ is_unverified checker
 hierarchy_verified keys checkers.Sha256 h = refl
-hierarchy_verified keys (checkers.HmacSha256 test) h = refl
+hierarchy_verified keys (checkers.Keyed algorithm test) h = refl
 hierarchy_verified keys checkers.Unsupported h = refl
 hierarchy_verified keys checkers.Unverified h = absurd h
 

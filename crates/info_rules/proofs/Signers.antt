@@ -2,9 +2,13 @@
 use Rattle.std.proofs.Common.{◌≡◌, ℕ, zero, suc, ◌<◌, Bool, true, false, List, [], ◌∷◌, length, get_or, refl, sym, ap, subst, ◌∙◌, ◌⊎◌, inl, inr, arith}
 use Rattle.std.specs.Prelude.{Some, None, ◌||◌}
 use Rattle.std.specs.List.{list_any}
-use Rattle.hmac_keys.specs.KeyFile.{NamedKey}
+use Rattle.key_files.specs.declared.key.Key.{Key}
+use Rattle.key_files.specs.declared.key.Key.TheVariants as variants
+use Rattle.key_files.specs.KeyFile.{NamedKey}
 use Rattle.ndn_packets.specs.Packet.{PlainLocator, Missing, KeyName, Digest, Other, PlainInterest, PlainData, AnInterest, AData}
 use Rattle.info_rules.specs.declared.rule.Kind.TheVariants as kinds
+use Rattle.info_rules.specs.declared.rule.Algorithm.{Algorithm}
+use Rattle.info_rules.specs.declared.rule.Algorithm.TheVariants as algorithms
 use Rattle.info_rules.specs.declared.rule.LocatorTest.{LocatorTest}
 use Rattle.info_rules.specs.declared.rule.Checker.{Checker}
 use Rattle.info_rules.specs.declared.rule.Checker.TheVariants as checkers
@@ -14,9 +18,9 @@ use Rattle.info_rules.specs.declared.decision.Reason.TheVariants as reasons
 use Rattle.info_rules.specs.declared.decision.Decision.TheVariants as decisions
 use Rattle.info_rules.specs.Rule.{PlainRule, is_unverified, is_unverified_at}
 use Rattle.info_rules.specs.Seen.{PlainSigned}
-use Rattle.info_rules.specs.Checks.{Unless, ChecksKey, ChecksLocator, Checks}
+use Rattle.info_rules.specs.Checks.{Unless, ChecksKey, ChecksLocator, ChecksSignature, Checks}
 use Rattle.info_rules.specs.Decides.{Decides}
-use Rattle.info_rules.specs.Signer.{NamesKey, NamesSigner, NamesItsSigner}
+use Rattle.info_rules.specs.Signer.{IsFor, NamesKey, NamesSigner, NamesItsSigner}
 
 no_reason : {X : Type 0} (r : Reason) → None ≡ Some r → X
 no_reason r e = absurd cc
@@ -26,24 +30,31 @@ passed : {Fact Rest : Type 0} (r : Reason) → Unless Fact r None Rest → Fact 
 passed r (inl not) = no_reason r not.1
 passed r (inr is) = is
 
-key_named : (keys : List NamedKey) (test : LocatorTest) (signed : PlainSigned) (locator : PlainLocator) → signed.signature.info.locator ≡ locator
-    → ChecksLocator keys test locator signed None → NamesKey keys signed.signature
-key_named keys test signed (KeyName name) is h = known (passed reasons.KeyLocator h).1
+-- a signature by a key is by the key's own algorithm
+own_algorithm : (algorithm : Algorithm) (key : Key) (signed : PlainSigned) → ChecksSignature algorithm key signed None → IsFor algorithm key
+own_algorithm algorithms.HmacSha256 (variants.Hmac octets) signed h = tt
+own_algorithm algorithms.EcdsaSha256 (variants.Ecdsa octets) signed h = tt
+own_algorithm algorithms.HmacSha256 (variants.Ecdsa octets) signed h = no_reason reasons.SigType h
+own_algorithm algorithms.EcdsaSha256 (variants.Hmac octets) signed h = no_reason reasons.SigType h
+
+key_named : (keys : List NamedKey) (algorithm : Algorithm) (test : LocatorTest) (signed : PlainSigned) (locator : PlainLocator) → signed.signature.info.locator ≡ locator
+    → ChecksLocator keys algorithm test locator signed None → NamesKey keys algorithm signed.signature
+key_named keys algorithm test signed (KeyName name) is h = known (passed reasons.KeyLocator h).1
   where
-    known : ChecksKey keys name signed None → NamesKey keys signed.signature
+    known : ChecksKey keys algorithm name signed None → NamesKey keys algorithm signed.signature
     known (inl none) = no_reason reasons.KeyUnknown none.1
-    known (inr key) = (name, key.0, is, key.1)
-key_named keys test signed Missing is h = no_reason reasons.KeyLocator h
-key_named keys test signed Digest is h = no_reason reasons.KeyLocator h
-key_named keys test signed Other is h = no_reason reasons.KeyLocator h
+    known (inr key) = (name, key.0, is, key.1, own_algorithm algorithm key.0 signed key.2)
+key_named keys algorithm test signed Missing is h = no_reason reasons.KeyLocator h
+key_named keys algorithm test signed Digest is h = no_reason reasons.KeyLocator h
+key_named keys algorithm test signed Other is h = no_reason reasons.KeyLocator h
 
 -- a packet that passes the checker has a known signer, or it is a Data and the checker is
 -- unverified
 signer_of : (keys : List NamedKey) (checker : Checker) (signed : PlainSigned) → Checks keys checker signed None → NamesSigner keys signed.signature ⊎ ((signed.kind ≡ kinds.Data) × (is_unverified checker ≡ true))
 signer_of keys checkers.Sha256 signed h = inl (inl (passed reasons.SigType h).0)
-signer_of keys (checkers.HmacSha256 test) signed h =
+signer_of keys (checkers.Keyed algorithm test) signed h =
     let both = passed reasons.SigType h in
-    inl (inr (both.0, key_named keys test signed signed.signature.info.locator refl both.1))
+    inl (inr (algorithm, both.0, key_named keys algorithm test signed signed.signature.info.locator refl both.1))
 signer_of keys checkers.Unsupported signed h = no_reason reasons.SigType h
 signer_of keys checkers.Unverified signed h = inr ((passed reasons.SigType h).0, refl)
 

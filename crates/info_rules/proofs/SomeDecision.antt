@@ -5,8 +5,13 @@ use Rattle.std.proofs.lemmas.Bool.{cases_lt}
 use Rattle.std.proofs.lemmas.List.Elements.{All-push}
 use Rattle.sha2.specs.Sha256.{sha256}
 use Rattle.ndn_tlv.specs.Element.{Field}
-use Rattle.hmac_keys.specs.KeyFile.{NamedKey, IsAmong}
+use Rattle.key_files.specs.KeyFile.{NamedKey, IsAmong}
 use Rattle.hmac_keys.specs.Mac.{Mac}
+use Rattle.key_files.specs.declared.key.Key.{Key}
+use Rattle.key_files.specs.declared.key.Key.TheVariants as variants
+use Rattle.key_files.specs.PublicKey.{IsEcdsaOf}
+use Rattle.info_rules.specs.declared.rule.Algorithm.{Algorithm}
+use Rattle.info_rules.specs.declared.rule.Algorithm.TheVariants as algorithms
 use Rattle.ndn_packets.specs.Packet.{PlainLocator, Missing, KeyName, Digest, Other, PlainSignature, PlainFrame, AnInterest, AData, ANack, Idle}
 use Rattle.ndn_packets.specs.Covered.{Covered}
 use Rattle.info_rules.specs.declared.rule.Kind.{Kind}
@@ -22,7 +27,7 @@ use Rattle.info_rules.specs.Rule.{PlainRule}
 use Rattle.info_rules.specs.First.{Applies, NoneApplies, IsFirst}
 use Rattle.info_rules.specs.Seen.{SeenPacket, PlainSigned, IsSigned, SaysWhen, seen_interest, seen_data}
 use Rattle.info_rules.specs.Locator.{PassesLocator}
-use Rattle.info_rules.specs.Checks.{Unless, ChecksTag, ChecksKey, ChecksLocator, Checks}
+use Rattle.info_rules.specs.Checks.{Unless, ChecksTag, ChecksKey, ChecksLocator, Checks, ChecksSignature, type_of}
 use Rattle.info_rules.specs.Decides.{reason_number, IsGreater, IsPassed, IsGreatest, DecideSeen, Decides}
 use Rattle.info_rules.specs.Decided.{IsDecided}
 use Rattle.info_rules.proofs.Reasons.{SoFar, one_more, all_done}
@@ -65,26 +70,33 @@ unless Fact reason Rest rest none =
 tag_says : (tag : List ℕ) (signed : PlainSigned) → ((given : Option Reason) → ChecksTag tag signed given → ⊥) → ⊥
 tag_says tag signed none = unless (signed.signature.value ≡ tag) reasons.Tag (λ given. given ≡ None) (λ no. no None refl) none
 
-key_says : (keys : List NamedKey) (name : List Field) (signed : PlainSigned) → ((given : Option Reason) → ChecksKey keys name signed given → ⊥) → ⊥
-key_says keys name signed none =
-    either ((key : List ℕ) × IsAmong (name, key) keys)
-    (λ found. tag_says (Mac found.0 signed.covered) signed (λ given c. none given (inr (found.0, found.1, c))))
+signature_says : (algorithm : Algorithm) (key : Key) (signed : PlainSigned) → ((given : Option Reason) → ChecksSignature algorithm key signed given → ⊥) → ⊥
+signature_says algorithms.HmacSha256 (variants.Hmac octets) signed none = tag_says (Mac octets signed.covered) signed none
+signature_says algorithms.EcdsaSha256 (variants.Ecdsa octets) signed none =
+    unless (IsEcdsaOf octets signed.covered signed.signature.value) reasons.Tag (λ given. given ≡ None) (λ no. no None refl) none
+signature_says algorithms.HmacSha256 (variants.Ecdsa octets) signed none = none (Some reasons.SigType) refl
+signature_says algorithms.EcdsaSha256 (variants.Hmac octets) signed none = none (Some reasons.SigType) refl
+
+key_says : (keys : List NamedKey) (algorithm : Algorithm) (name : List Field) (signed : PlainSigned) → ((given : Option Reason) → ChecksKey keys algorithm name signed given → ⊥) → ⊥
+key_says keys algorithm name signed none =
+    either ((key : Key) × IsAmong (name, key) keys)
+    (λ found. signature_says algorithm found.0 signed (λ given c. none given (inr (found.0, found.1, c))))
     (λ no. none (Some reasons.KeyUnknown) (inl ((λ key among. no (key, among)), refl)))
 
-locator_says : (keys : List NamedKey) (test : LocatorTest) (locator : PlainLocator) (signed : PlainSigned)
-    → ((given : Option Reason) → ChecksLocator keys test locator signed given → ⊥) → ⊥
-locator_says keys test (KeyName name) signed none =
-    unless (PassesLocator test name signed.name) reasons.KeyLocator (λ given. ChecksKey keys name signed given) (key_says keys name signed) none
-locator_says keys test Missing signed none = none (Some reasons.KeyLocator) refl
-locator_says keys test Digest signed none = none (Some reasons.KeyLocator) refl
-locator_says keys test Other signed none = none (Some reasons.KeyLocator) refl
+locator_says : (keys : List NamedKey) (algorithm : Algorithm) (test : LocatorTest) (locator : PlainLocator) (signed : PlainSigned)
+    → ((given : Option Reason) → ChecksLocator keys algorithm test locator signed given → ⊥) → ⊥
+locator_says keys algorithm test (KeyName name) signed none =
+    unless (PassesLocator test name signed.name) reasons.KeyLocator (λ given. ChecksKey keys algorithm name signed given) (key_says keys algorithm name signed) none
+locator_says keys algorithm test Missing signed none = none (Some reasons.KeyLocator) refl
+locator_says keys algorithm test Digest signed none = none (Some reasons.KeyLocator) refl
+locator_says keys algorithm test Other signed none = none (Some reasons.KeyLocator) refl
 
 says : (keys : List NamedKey) (checker : Checker) (signed : PlainSigned) → ((given : Option Reason) → Checks keys checker signed given → ⊥) → ⊥
 says keys checkers.Sha256 signed none =
     unless (signed.signature.info.kind ≡ 0) reasons.SigType (λ given. ChecksTag (sha256 signed.covered) signed given) (tag_says (sha256 signed.covered) signed) none
-says keys (checkers.HmacSha256 test) signed none =
-    unless (signed.signature.info.kind ≡ 4) reasons.SigType (λ given. ChecksLocator keys test signed.signature.info.locator signed given)
-    (locator_says keys test signed.signature.info.locator signed) none
+says keys (checkers.Keyed algorithm test) signed none =
+    unless (signed.signature.info.kind ≡ type_of algorithm) reasons.SigType (λ given. ChecksLocator keys algorithm test signed.signature.info.locator signed given)
+    (locator_says keys algorithm test signed.signature.info.locator signed) none
 says keys checkers.Unsupported signed none = none (Some reasons.SigType) refl
 says keys checkers.Unverified signed none = unless (signed.kind ≡ kinds.Data) reasons.SigType (λ given. given ≡ None) (λ no. no None refl) none
 

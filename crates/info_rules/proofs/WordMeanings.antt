@@ -22,7 +22,7 @@ use Rattle.info_rules.specs.declared.rule.Relation.TheVariants as relations
 use Rattle.info_rules.specs.declared.value_words.CheckerType.{CheckerType}
 use Rattle.info_rules.specs.declared.value_words.CheckerType.TheVariants.{Customized, Hierarchical, Unverified}
 use Rattle.info_rules.specs.declared.value_words.SignatureType.{SignatureType}
-use Rattle.info_rules.specs.declared.value_words.SignatureType.TheVariants.{HmacSha256, Sha256, Asymmetric}
+use Rattle.info_rules.specs.declared.value_words.SignatureType.TheVariants.{HmacSha256, EcdsaSha256, Sha256, RsaSha256}
 use Rattle.info_rules.specs.ValueWords.{kind_in, relation_in, checker_type_in, signature_type_in, is_id}
 use Rattle.info_rules.specs.Values.{ok_of, id_in, name_word_in}
 use Rattle.info_rules.specs.Meaning.{IsKind, IsRelation, IsId}
@@ -36,7 +36,8 @@ IsCheckerType text Unverified = text ≡ codes "unverified"
 abbrev pub IsSignatureType : List ℕ → SignatureType → Type 0
 IsSignatureType text HmacSha256 = text ≡ codes "hmac-sha256"
 IsSignatureType text Sha256 = text ≡ codes "sha256"
-IsSignatureType text Asymmetric = (text ≡ codes "rsa-sha256") ⊎ (text ≡ codes "ecdsa-sha256")
+IsSignatureType text EcdsaSha256 = text ≡ codes "ecdsa-sha256"
+IsSignatureType text RsaSha256 = text ≡ codes "rsa-sha256"
 
 equal : (text word : List ℕ) → bytes_eq text word ≡ true → text ≡ word
 equal text word e = (bytes_eq-Decides text word).0 e
@@ -123,21 +124,21 @@ checker_type_meant text Hierarchical h = rw h refl
 checker_type_meant text Unverified h = rw h refl
 
 pub signature_means : (text : List ℕ) (type : SignatureType) → signature_type_in text ≡ Some type → IsSignatureType text type
-signature_means text type e = by_tests (bytes_eq text (codes "hmac-sha256")) (bytes_eq text (codes "sha256")) (bytes_eq text (codes "rsa-sha256")) (bytes_eq text (codes "ecdsa-sha256")) refl refl refl refl e
+signature_means text type e = by_tests (bytes_eq text (codes "hmac-sha256")) (bytes_eq text (codes "ecdsa-sha256")) (bytes_eq text (codes "sha256")) (bytes_eq text (codes "rsa-sha256")) refl refl refl refl e
   where
-    by_tests : (s t u v : Bool) → bytes_eq text (codes "hmac-sha256") ≡ s → bytes_eq text (codes "sha256") ≡ t → bytes_eq text (codes "rsa-sha256") ≡ u → bytes_eq text (codes "ecdsa-sha256") ≡ v
-        → cond s (Some HmacSha256) (cond t (Some Sha256) (cond (u || v) (Some Asymmetric) None)) ≡ Some type → IsSignatureType text type
+    by_tests : (s t u v : Bool) → bytes_eq text (codes "hmac-sha256") ≡ s → bytes_eq text (codes "ecdsa-sha256") ≡ t → bytes_eq text (codes "sha256") ≡ u → bytes_eq text (codes "rsa-sha256") ≡ v
+        → cond s (Some HmacSha256) (cond t (Some EcdsaSha256) (cond u (Some Sha256) (cond v (Some RsaSha256) None))) ≡ Some type → IsSignatureType text type
     by_tests true t u v p q r o e = subst (IsSignatureType text) (some_one HmacSha256 type e) (equal text (codes "hmac-sha256") p)
-    by_tests false true u v p q r o e = subst (IsSignatureType text) (some_one Sha256 type e) (equal text (codes "sha256") q)
-    by_tests false false true v p q r o e = subst (IsSignatureType text) (some_one Asymmetric type e) (inl (equal text (codes "rsa-sha256") r))
-    by_tests false false false true p q r o e = subst (IsSignatureType text) (some_one Asymmetric type e) (inr (equal text (codes "ecdsa-sha256") o))
+    by_tests false true u v p q r o e = subst (IsSignatureType text) (some_one EcdsaSha256 type e) (equal text (codes "ecdsa-sha256") q)
+    by_tests false false true v p q r o e = subst (IsSignatureType text) (some_one Sha256 type e) (equal text (codes "sha256") r)
+    by_tests false false false true p q r o e = subst (IsSignatureType text) (some_one RsaSha256 type e) (equal text (codes "rsa-sha256") o)
     by_tests false false false false p q r o e = absurd cc
 
 pub signature_meant : (text : List ℕ) (type : SignatureType) → IsSignatureType text type → signature_type_in text ≡ Some type
 signature_meant text HmacSha256 h = rw h refl
+signature_meant text EcdsaSha256 h = rw h refl
 signature_meant text Sha256 h = rw h refl
-signature_meant text Asymmetric (inl h) = rw h refl
-signature_meant text Asymmetric (inr h) = rw h refl
+signature_meant text RsaSha256 h = rw h refl
 
 -- ---- the meaning of ids
 

@@ -2,6 +2,8 @@
 use Rattle.std.specs.Prelude.{ℕ, List, Option, None, Some, Ok, Err, Bool, true, false, not, codes, option_map, ◌&&◌, ◌||◌, if◌then◌else◌}
 use Rattle.info_rules.specs.declared.fault.RulesFault.{RulesFault}
 use Rattle.info_rules.specs.declared.fault.RulesFaultKind.TheVariants.{BadValue}
+use Rattle.info_rules.specs.declared.rule.Algorithm.{Algorithm}
+use Rattle.info_rules.specs.declared.rule.Algorithm.TheVariants as algorithms
 use Rattle.info_rules.specs.declared.rule.Checker.{Checker}
 use Rattle.info_rules.specs.declared.rule.Checker.TheVariants as checkers
 use Rattle.info_rules.specs.declared.rule.LocatorTest.{LocatorTest}
@@ -11,7 +13,7 @@ use Rattle.info_rules.specs.Blocks as blocks
 use Rattle.info_rules.specs.declared.value_words.CheckerType.{CheckerType}
 use Rattle.info_rules.specs.declared.value_words.CheckerType.TheVariants.{Customized, Hierarchical, Unverified}
 use Rattle.info_rules.specs.declared.value_words.SignatureType.{SignatureType}
-use Rattle.info_rules.specs.declared.value_words.SignatureType.TheVariants.{HmacSha256, Sha256, Asymmetric}
+use Rattle.info_rules.specs.declared.value_words.SignatureType.TheVariants.{HmacSha256, EcdsaSha256, Sha256, RsaSha256}
 use Rattle.info_rules.specs.Tree.{Block}
 use Rattle.info_rules.specs.Faults.{after}
 use Rattle.info_rules.specs.Found.{Found, both, beside, needed_one, needed, shown, then_made, each}
@@ -38,7 +40,8 @@ is_customized (Err fault) = false
 abbrev pub is_digest : Found (Option SignatureType) → Bool
 is_digest (Ok (Some Sha256)) = true
 is_digest (Ok (Some HmacSha256)) = false
-is_digest (Ok (Some Asymmetric)) = false
+is_digest (Ok (Some EcdsaSha256)) = false
+is_digest (Ok (Some RsaSha256)) = false
 is_digest (Ok None) = false
 is_digest (Err fault) = false
 
@@ -64,14 +67,19 @@ locator_of hierarchical keys =
     if hierarchical then Ok (Some locators.Hierarchical)
     else shown first_of (each locator_in (named (codes "key-locator") keys))
 
--- The checker with this signature type. Without a signature type, the checker requires HMAC with
--- SHA-256. An HMAC checker needs a requirement on the key's name: without one, the fault is
--- `Missing` at this line.
+-- a checker of signatures by a key; without a requirement on the key's name, the fault is `Missing`
+-- at this line
+abbrev pub keyed : ℕ → Algorithm → Option LocatorTest → Found Checker
+keyed line algorithm test = shown (checkers.Keyed algorithm) (needed_one line test)
+
+-- the checker with this signature type; without a signature type, the checker requires HMAC with
+-- SHA-256
 abbrev pub checker_with : ℕ → Option SignatureType → Option LocatorTest → Found Checker
-checker_with line None test = shown checkers.HmacSha256 (needed_one line test)
-checker_with line (Some HmacSha256) test = shown checkers.HmacSha256 (needed_one line test)
+checker_with line None test = keyed line algorithms.HmacSha256 test
+checker_with line (Some HmacSha256) test = keyed line algorithms.HmacSha256 test
+checker_with line (Some EcdsaSha256) test = keyed line algorithms.EcdsaSha256 test
 checker_with line (Some Sha256) test = Ok checkers.Sha256
-checker_with line (Some Asymmetric) test = Ok checkers.Unsupported
+checker_with line (Some RsaSha256) test = Ok checkers.Unsupported
 
 -- The checker of this type. An unverified checker has no signature type and no requirement on the
 -- key's name.

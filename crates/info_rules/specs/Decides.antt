@@ -1,6 +1,6 @@
 -- The decisions of rules on a packet.
 use Rattle.std.specs.Prelude.{◌≡◌, ◌⊎◌, ◌≤◌, ℕ, List, [], Option, None, Some, All, Any}
-use Rattle.hmac_keys.specs.KeyFile.{NamedKey}
+use Rattle.key_files.specs.KeyFile.{NamedKey}
 use Rattle.ndn_packets.specs.Packet.{KeyName, PlainSignature, PlainFrame, AnInterest, AData, ANack, Idle}
 use Rattle.ndn_packets.specs.Covered.{Covered}
 use Rattle.ndn_tlv.specs.Element.{Field}
@@ -110,7 +110,7 @@ Decides rules keys Idle decision = ⊥
 -- expanded name is too long
 abbrev pub Expands : Checker → PlainSigned → Type 0
 Expands checkers.Sha256 signed = ⊥
-Expands (checkers.HmacSha256 test) signed =
+Expands (checkers.Keyed algorithm test) signed =
     (key : List Field) × (signed.signature.info.locator ≡ KeyName key)
     × MakesBoth test key signed.name
 Expands checkers.Unsupported signed = ⊥

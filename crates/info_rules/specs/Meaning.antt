@@ -13,6 +13,8 @@ use Rattle.info_rules.specs.declared.rule.NameTest.{NameTest}
 use Rattle.info_rules.specs.declared.rule.NameTest.TheVariants as tests
 use Rattle.info_rules.specs.declared.rule.LocatorTest.{LocatorTest}
 use Rattle.info_rules.specs.declared.rule.LocatorTest.TheVariants as locators
+use Rattle.info_rules.specs.declared.rule.Algorithm.{Algorithm}
+use Rattle.info_rules.specs.declared.rule.Algorithm.TheVariants as algorithms
 use Rattle.info_rules.specs.declared.rule.Checker.{Checker}
 use Rattle.info_rules.specs.declared.rule.Checker.TheVariants as checkers
 use Rattle.info_rules.specs.Tree.{PlainEntry, Block, blocks_of}
@@ -125,38 +127,39 @@ AsksOfKey keys locators.Hierarchical = ⊥
 abbrev pub IsLocator : Block → LocatorTest → Type 0
 IsLocator key test = OpensBlock key × AsksOfKey (blocks_of 3 key.1) test
 
--- the checker accepts HMAC with SHA-256: its signature type is `hmac-sha256` or absent
-abbrev pub TakesHmac : List Block → Type 0
-TakesHmac keys = Lacks (codes "sig-type") keys
+-- The signature type of the keys is this algorithm. Without a signature type, it is HMAC with
+-- SHA-256.
+abbrev pub TakesAlgorithm : Algorithm → List Block → Type 0
+TakesAlgorithm algorithms.HmacSha256 keys = Lacks (codes "sig-type") keys
     ⊎ HasValue (codes "sig-type") keys (codes "hmac-sha256")
+TakesAlgorithm algorithms.EcdsaSha256 keys = HasValue (codes "sig-type") keys (codes "ecdsa-sha256")
 
 abbrev pub TakesDigest : List Block → Type 0
 TakesDigest keys = HasValue (codes "sig-type") keys (codes "sha256")
 
-abbrev pub TakesAsymmetric : List Block → Type 0
-TakesAsymmetric keys = HasValue (codes "sig-type") keys (codes "rsa-sha256")
-    ⊎ HasValue (codes "sig-type") keys (codes "ecdsa-sha256")
+abbrev pub TakesRsa : List Block → Type 0
+TakesRsa keys = HasValue (codes "sig-type") keys (codes "rsa-sha256")
 
--- A checker of `type customized`. The key locator of an HMAC checker states the requirement on the
--- key's name. A checker of RSA or ECDSA must have a valid key locator, which has no effect. A
--- checker of digests needs no key locator, because a digest has no key. The key locator of a
--- checker of digests, if present, must be valid, but has no effect.
+-- A checker of `type customized`. The key locator of a checker of signatures by a key states the
+-- requirement on the key's name. A checker of RSA must have a valid key locator, which has no
+-- effect. A checker of digests needs no key locator, because a digest has no key. The key locator of
+-- a checker of digests, if present, must be valid, but has no effect.
 abbrev pub AsksAsTold : List Block → Checker → Type 0
-AsksAsTold keys (checkers.HmacSha256 test) =
-    TakesHmac keys × HasBlock IsLocator (codes "key-locator") keys test
+AsksAsTold keys (checkers.Keyed algorithm test) =
+    TakesAlgorithm algorithm keys × HasBlock IsLocator (codes "key-locator") keys test
 AsksAsTold keys checkers.Sha256 =
     TakesDigest keys × (Lacks (codes "key-locator") keys
     ⊎ ((test : LocatorTest) × HasBlock IsLocator (codes "key-locator") keys test))
 AsksAsTold keys checkers.Unsupported =
-    TakesAsymmetric keys
-    × ((test : LocatorTest) × HasBlock IsLocator (codes "key-locator") keys test)
+    TakesRsa keys × ((test : LocatorTest) × HasBlock IsLocator (codes "key-locator") keys test)
 AsksAsTold keys checkers.Unverified = ⊥
 
 -- a checker of `type hierarchical`, which has no key locator
 abbrev pub AsksByHierarchy : List Block → Checker → Type 0
-AsksByHierarchy keys (checkers.HmacSha256 test) = TakesHmac keys × (test ≡ locators.Hierarchical)
+AsksByHierarchy keys (checkers.Keyed algorithm test) =
+    TakesAlgorithm algorithm keys × (test ≡ locators.Hierarchical)
 AsksByHierarchy keys checkers.Sha256 = TakesDigest keys
-AsksByHierarchy keys checkers.Unsupported = TakesAsymmetric keys
+AsksByHierarchy keys checkers.Unsupported = TakesRsa keys
 AsksByHierarchy keys checkers.Unverified = ⊥
 
 -- a checker of `type unverified`, whose block has no other key; only a rule for Data may have it

@@ -17,7 +17,7 @@ pub record PlainRule : Type 0 where
 -- the checker passes Data without verifying their signatures
 abbrev pub is_unverified : Checker → Bool
 is_unverified checkers.Sha256 = false
-is_unverified (checkers.HmacSha256 test) = false
+is_unverified (checkers.Keyed algorithm test) = false
 is_unverified checkers.Unsupported = false
 is_unverified checkers.Unverified = true
 

@@ -8,7 +8,7 @@ use Rattle.info_rules.specs.declared.rule.Relation.TheVariants.{Equal, IsPrefixO
 use Rattle.info_rules.specs.declared.value_words.CheckerType.{CheckerType}
 use Rattle.info_rules.specs.declared.value_words.CheckerType.TheVariants.{Customized, Hierarchical, Unverified}
 use Rattle.info_rules.specs.declared.value_words.SignatureType.{SignatureType}
-use Rattle.info_rules.specs.declared.value_words.SignatureType.TheVariants.{HmacSha256, Sha256, Asymmetric}
+use Rattle.info_rules.specs.declared.value_words.SignatureType.TheVariants.{HmacSha256, EcdsaSha256, Sha256, RsaSha256}
 
 abbrev pub kind_in : List ℕ → Option Kind
 kind_in text =
@@ -30,9 +30,9 @@ checker_type_in text =
 abbrev pub signature_type_in : List ℕ → Option SignatureType
 signature_type_in text =
     if bytes_eq text (codes "hmac-sha256") then Some HmacSha256 else (
+    if bytes_eq text (codes "ecdsa-sha256") then Some EcdsaSha256 else (
     if bytes_eq text (codes "sha256") then Some Sha256 else (
-    if bytes_eq text (codes "rsa-sha256") || bytes_eq text (codes "ecdsa-sha256")
-    then Some Asymmetric else None))
+    if bytes_eq text (codes "rsa-sha256") then Some RsaSha256 else None)))
 
 -- whether the text is an id: it has 1 to 100 octets, none of which is below 32
 abbrev pub is_id : List ℕ → Bool

@@ -12,7 +12,7 @@ use crate::found::{Found, Read, beside, both, missing_unless, needed};
 use crate::keys::Keys;
 use crate::locator_block::LocatorReader;
 use crate::readers::read_value;
-use crate::rule::{Checker, LocatorTest};
+use crate::rule::{Algorithm, Checker, LocatorTest};
 use crate::table::Block;
 use crate::value_words::{CheckerType, SignatureType};
 use crate::walk::walk;
@@ -98,11 +98,19 @@ fn made_of(
     }
     match signature {
         Some(SignatureType::Sha256) => Ok(Checker::Sha256),
-        Some(SignatureType::Asymmetric) => Ok(Checker::Unsupported),
-        Some(SignatureType::HmacSha256) | None => {
-            needed(line, Ok(test)).map(Checker::HmacSha256)
-        }
+        Some(SignatureType::RsaSha256) => Ok(Checker::Unsupported),
+        Some(SignatureType::EcdsaSha256) => keyed(line, Algorithm::EcdsaSha256, test),
+        Some(SignatureType::HmacSha256) | None => keyed(line, Algorithm::HmacSha256, test),
     }
+}
+
+/// Makes a checker of signatures by a key. Without a requirement on the key's name, the fault is
+/// `Missing`.
+fn keyed(line: u32, algorithm: Algorithm, test: Option<LocatorTest>) -> Found<Checker>
+    ensures { result ≡ spec.keyed line algorithm test }
+{
+    let test = needed(line, Ok(test))?;
+    Ok(Checker::Keyed(algorithm, test))
 }
 
 /// A reader of checkers. `for_interests` is true in a rule for Interests.

@@ -1,7 +1,7 @@
 //! The decisions of rules on packets.
 
 ghost use Rattle.std.specs.Prelude.{◌≡◌, ◌⊎◌, ℕ, List, Any, true, MatchOption, MatchResult};
-ghost use Rattle.hmac_keys.specs.KeyFile.{NamedKey, AreApart};
+ghost use Rattle.key_files.specs.KeyFile.{NamedKey, AreApart};
 ghost use Rattle.ndn_packets.specs.Packet.{PlainInterest, PlainData, PlainFrame, AnInterest, AData};
 ghost use Rattle.info_rules.specs.Rule.{PlainRule, is_unverified_at};
 ghost use Rattle.info_rules.specs.Decides.{IsGreater, IsPassed, IsGreatest, Allow, Deny, Expands, AnyExpands, Decides};
@@ -15,7 +15,7 @@ use crate::matching::applies;
 use crate::packet::{Packet, Signed};
 use crate::rule::{Checker, Kind};
 use crate::rules::{RuleNo, Rules};
-use hmac_keys::KeyBook;
+use key_files::KeyBook;
 use ndn_names::Name;
 use ndn_tlv::Memory;
 use std::alloc::Global;
@@ -33,8 +33,9 @@ pub enum Reason {
     /// no SignatureTime.
     #[error("Shape: no SignatureTime, or the digest is not last in the name; add a time, put the digest last")]
     Shape,
-    /// No checker accepts the signature type of the packet.
-    #[error("SigType: no checker takes this type of signature; sign with the rule's sig-type")]
+    /// No checker accepts the signature type of the packet, or the key that the KeyLocator names is for
+    /// another type.
+    #[error("SigType: no checker takes this type, or the named key is for another; use the rule's sig-type")]
     SigType,
     /// The KeyLocator does not have the name of a key that a checker accepts, or the rule has no
     /// checker.
@@ -43,7 +44,7 @@ pub enum Reason {
     /// The key that the KeyLocator names is not in the key book.
     #[error("KeyUnknown: the key file lacks this key; add its line")]
     KeyUnknown,
-    /// The signature value is not the tag of the covered octets.
+    /// The signature value is not right for the covered octets under the key.
     #[error("Tag: the octets were changed, or the two sides have different keys; compare the keys")]
     Tag,
     /// A signed Interest is not newer than one of the earlier allowed Interests of its signer, or
@@ -206,7 +207,8 @@ pub fn no_packet_is_undecided()
 {}
 
 /// Law: an allowed packet has a signature of type DigestSha256, which anybody can compute, or of
-/// type HmacWithSha256. For HmacWithSha256, the KeyLocator has the name of a key of the key book.
+/// type HmacWithSha256 or SignatureSha256WithEcdsa. For these two, the KeyLocator has the name of a
+/// key of the key book that is for this type.
 /// An allowed Interest also has a SignatureTime. Only a Data may have another signature, and only
 /// if the rule that allows it has an unverified checker.
 pub fn allowed_packets_name_their_signer()

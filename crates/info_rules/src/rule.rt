@@ -77,14 +77,23 @@ pub enum LocatorTest {
     Hierarchical,
 }
 
+/// An algorithm of signatures that are made with a key.
+#[derive(Clone, Copy, Debug, PartialEq, Eq)]
+pub enum Algorithm {
+    /// HMAC with SHA-256, under a secret that both sides have.
+    HmacSha256,
+    /// ECDSA over P-256 with SHA-256. The verifier has the public key.
+    EcdsaSha256,
+}
+
 /// A requirement on a signature.
 #[derive(Debug, Drop)]
 pub enum Checker {
     /// DigestSha256, with any KeyLocator or none.
     Sha256,
-    /// HmacWithSha256 with a key of the key book. The key's name meets the requirement.
-    HmacSha256(LocatorTest),
-    /// A signature type for RSA or ECDSA, which is never accepted.
+    /// A signature of this algorithm by a key of the key book. The key's name meets the requirement.
+    Keyed(Algorithm, LocatorTest),
+    /// A signature type for RSA, which is never accepted.
     Unsupported,
     /// Any signature of a Data, which is not verified. Never accepted for an Interest.
     Unverified,

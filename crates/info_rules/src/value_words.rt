@@ -16,8 +16,8 @@ use std::alloc::Global;
 /// The greatest length of a rule's id, in octets.
 const MAX_ID_LEN: usize = 100;
 
-/// The type of a checker. For HMAC signatures, the type tells which requirement the key's name must
-/// meet.
+/// The type of a checker. For signatures by a key, the type tells which requirement the key's name
+/// must meet.
 #[derive(Clone, Copy)]
 pub enum CheckerType {
     /// The requirement that the checker's `key-locator` block states.
@@ -32,9 +32,10 @@ pub enum CheckerType {
 #[derive(Clone, Copy)]
 pub enum SignatureType {
     HmacSha256,
+    EcdsaSha256,
     Sha256,
-    /// RSA or ECDSA, which is known but never accepted.
-    Asymmetric,
+    /// RSA, which is known but never accepted.
+    RsaSha256,
 }
 
 /// A type of values that can be read from a text.
@@ -91,8 +92,9 @@ impl Value for SignatureType {
     fn of_text(_alloc: Global, text: &str) -> Result<Option<SignatureType>, Memory> {
         Ok(match text {
             "hmac-sha256" => Some(SignatureType::HmacSha256),
+            "ecdsa-sha256" => Some(SignatureType::EcdsaSha256),
             "sha256" => Some(SignatureType::Sha256),
-            "rsa-sha256" | "ecdsa-sha256" => Some(SignatureType::Asymmetric),
+            "rsa-sha256" => Some(SignatureType::RsaSha256),
             _ => None,
         })
     }

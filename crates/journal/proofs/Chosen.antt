@@ -3,7 +3,7 @@
 use Rattle.std.proofs.Common.{◌≡◌, inl, inr, ℕ, Bool, true, false, refl, sym, ap, ◌∙◌}
 use Rattle.std.specs.Prelude.{Option, Some, None, if◌then◌else◌}
 use Rattle.sha2.specs.Sha256.{sha256}
-use Rattle.hmac_keys.specs.KeyFile.{AreApart}
+use Rattle.key_files.specs.KeyFile.{AreApart}
 use Rattle.ndn_packets.specs.Packet.{PlainFrame, AnInterest, AData, ANack, Idle}
 use Rattle.info_rules.specs.declared.rules.RuleNo.{RuleNo}
 use Rattle.info_rules.specs.declared.decision.Decision.{Decision}

@@ -1,7 +1,7 @@
 -- If the first event of a run brings new rules and keys, then the policy after the run does not
 -- depend on the rules and keys before this event.
 use Rattle.std.proofs.Common.{◌≡◌, ℕ, List, [], ◌∷◌, ◌++◌, refl, sym, ap, subst}
-use Rattle.hmac_keys.specs.KeyFile.{NamedKey}
+use Rattle.key_files.specs.KeyFile.{NamedKey}
 use Rattle.info_rules.specs.Rule.{PlainRule}
 use Rattle.forwarder.specs.Event.{PlainEvent, NewRules}
 use Rattle.forwarder.specs.Policy.{Policy, with_rules}

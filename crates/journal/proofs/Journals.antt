@@ -2,7 +2,7 @@
 -- run from the latest time of the run on.
 use Rattle.std.proofs.Common.{◌≡◌, ◌≤◌, ℕ, Bool, true, false, List, [], ◌∷◌, ◌++◌, length, length-append, arith, refl, sym, ap, subst, ◌∙◌}
 use Rattle.std.specs.Prelude.{max}
-use Rattle.hmac_keys.specs.KeyFile.{AreApart}
+use Rattle.key_files.specs.KeyFile.{AreApart}
 use Rattle.forwarder.specs.Event.{PlainEvent, moment}
 use Rattle.forwarder.specs.Policy.{Policy, at_moment}
 use Rattle.forwarder.specs.Effects.{IsAfter, IsEffect, decided_packet}

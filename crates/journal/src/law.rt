@@ -1,5 +1,5 @@
 ghost use Rattle.std.specs.Prelude.{◌≡◌, ◌≤◌, ◌∷◌, ◌++◌, ℕ, List, Bool, false};
-ghost use Rattle.hmac_keys.specs.KeyFile.{AreApart, NamedKey};
+ghost use Rattle.key_files.specs.KeyFile.{AreApart, NamedKey};
 ghost use Rattle.info_rules.specs.Rule.{PlainRule};
 ghost use Rattle.forwarder.specs.Event.{PlainEvent, NewRules, Send, moment};
 ghost use Rattle.forwarder.specs.Policy.{Policy, at_moment, with_rules};

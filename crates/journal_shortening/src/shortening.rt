@@ -6,7 +6,7 @@ use crate::comparing::{have_same_last_rules, restores_same_tables};
 use crate::fault::ShortenFault;
 use crate::needed::{Needed, needed_lines, put_needed};
 use forwarder::{Node, NodeFault, NodeParts};
-use hmac_keys::KeyBook;
+use key_files::KeyBook;
 use ndn_names::NameBuf;
 use node_core::read_rules;
 use std::alloc::Global;

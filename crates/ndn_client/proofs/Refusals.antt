@@ -1,7 +1,7 @@
 -- If the packet of a job cannot be written, the returned fault satisfies the definition of a
 -- refusal for the job (`IsInterestRefusal`, `IsDataRefusal` or `IsCommandRefusal`).
 use Rattle.std.proofs.Common.{List, refl, inl, inr}
-use Rattle.hmac_keys.specs.KeyFile.{NamedKey}
+use Rattle.key_files.specs.KeyFile.{NamedKey}
 use Rattle.ndn_packets.specs.declared.fault.WriteFault.{WriteFault}
 use Rattle.ndn_packets.specs.declared.fault.WriteFault.TheVariants.{BadName, TooLong, Memory}
 use Rattle.ndn_packets.specs.declared.interest_writer.InterestWriter.{InterestWriter}

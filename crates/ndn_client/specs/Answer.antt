@@ -4,7 +4,8 @@ use Rattle.std.specs.Option.{option_map}
 use Rattle.ndn_tlv.specs.Element.{Field}
 use Rattle.ndn_names.specs.View.{components}
 use Rattle.hmac_keys.specs.Mac.{Mac}
-use Rattle.hmac_keys.specs.KeyFile.{NamedKey, IsAmong}
+use Rattle.key_files.specs.declared.key.Key.TheVariants as keys
+use Rattle.key_files.specs.KeyFile.{NamedKey, IsAmong}
 use Rattle.ndn_packets.specs.declared.fault.WriteFault.{WriteFault}
 use Rattle.ndn_packets.specs.declared.signature.Sign.{Sign}
 use Rattle.ndn_packets.specs.declared.signature.Sign.TheVariants.{Digest, Hmac}
@@ -32,14 +33,15 @@ use Rattle.ndn_requests.specs.Parameters.{command_name, IsTooLong}
 
 -- ---- the key
 
--- the signature is an HMAC and names the key `name`; the book has the key of the HMAC under this
+-- the signature is an HMAC and names the key `name`; the book has the secret of the HMAC under this
 -- name
 abbrev pub IsHmac : List Field → List NamedKey → Sign → Type 0
 IsHmac name book Digest = ⊥
-IsHmac name book (Hmac key_name key) = (components key_name ≡ name) × IsAmong (name, key.now) book
+IsHmac name book (Hmac key_name key) =
+    (components key_name ≡ name) × IsAmong (name, keys.Hmac key.now) book
 
 abbrev pub LacksKey : List Field → List NamedKey → Type 0
-LacksKey name book = (key : List ℕ) → IsAmong (name, key) book → ⊥
+LacksKey name book = (secret : List ℕ) → IsAmong (name, keys.Hmac secret) book → ⊥
 
 abbrev pub LacksChosen : Option (List Field) → List NamedKey → Type 0
 LacksChosen None book = ⊥
@@ -136,7 +138,8 @@ IsCommandAnswer job book text =
 -- the line with the HMAC of the job's octets, under the key that the job names
 abbrev pub IsTagAnswer : TagJob → List NamedKey → List ℕ → Type 0
 IsTagAnswer job book text =
-    (key : List ℕ) × IsAmong (job.key, key) book × (text ≡ hex_line (Mac key job.octets.items))
+    (secret : List ℕ) × IsAmong (job.key, keys.Hmac secret) book
+    × (text ≡ hex_line (Mac secret job.octets.items))
 
 -- the octets are a packet, and the text is the lines of the packet's fields
 abbrev pub IsShown : List ℕ → List ℕ → Type 0

@@ -1,8 +1,8 @@
 -- The message and the exit status of each fault of the program.
 use Rattle.std.specs.Prelude.{ℕ, List, ◌++◌, codes, Option, Some, string_bytes}
 use Rattle.std.specs.Net.Text.{socket_text}
-use Rattle.hmac_keys.specs.declared.fault.KeyFault.{KeyFault}
-use Rattle.hmac_keys.specs.declared.fault.KeyFault.TheVariants.{BadLine, TwiceNamed, TooMany, Memory as KeyMemory}
+use Rattle.key_files.specs.declared.fault.KeyFault.{KeyFault}
+use Rattle.key_files.specs.declared.fault.KeyFault.TheVariants.{BadLine, BadKey, TwiceNamed, TooMany, Memory as KeyMemory}
 use Rattle.file_faults.specs.Advice.{cause_of, key_text}
 use Rattle.ndn_names.specs.Uri.{uri_of}
 use Rattle.ndn_jobs.specs.Fault.{tool_status, tool_text}
@@ -18,6 +18,7 @@ use Rattle.ndn_client.specs.declared.fault.Fault.TheVariants as fault
 
 abbrev pub key_status : KeyFault → ℕ
 key_status (BadLine line) = 1
+key_status (BadKey line) = 1
 key_status (TwiceNamed line) = 1
 key_status TooMany = 1
 key_status KeyMemory = 3

@@ -1,8 +1,8 @@
 -- Reading the octets of a key file, and why a key file is refused.
 use Rattle.std.specs.Prelude.{◌≡◌, ◌⊎◌, ◌<◌, ◌≤◌, ℕ, List, length, string_bytes, ⊤}
 use Rattle.std.specs.declared.io.ErrorKind.{ErrorKind}
-use Rattle.hmac_keys.specs.KeyFile.{NamedKey}
-use Rattle.hmac_keys.specs.KeyReading.{AreKeys, IsFaultOfOctets}
+use Rattle.key_files.specs.KeyFile.{NamedKey}
+use Rattle.key_files.specs.KeyReading.{AreKeys, IsFaultOfOctets}
 use Rattle.limited_reads.specs.declared.TheConstants.{MAX_KEY_FILE}
 use Rattle.ndn_jobs.specs.declared.fault.ToolFault.TheVariants.{Memory}
 use Rattle.ndn_client.specs.declared.fault.Fault.{Fault}

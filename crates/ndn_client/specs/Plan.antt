@@ -2,7 +2,7 @@
 use Rattle.std.specs.Prelude.{◌≡◌, ℕ, List, [], Option, None, Some, Bool, true, false, is_none, unwrap_or, if◌then◌else◌, Vec}
 use Rattle.std.specs.Option.{option_map}
 use Rattle.std.specs.Global.{Vec as Octets}
-use Rattle.hmac_keys.specs.KeyFile.{NamedKey}
+use Rattle.key_files.specs.KeyFile.{NamedKey}
 use Rattle.ndn_explain.specs.Input.{IsExplainedInput}
 use Rattle.ndn_requests.specs.declared.exchange.View.{View}
 use Rattle.ndn_requests.specs.declared.exchange.View.TheVariants.{Hexadecimal, Lines as AsLines}

@@ -5,7 +5,8 @@ ghost use Rattle.ndn_packets.specs.View.{plain_frame, plain_framed};
 ghost use Rattle.ndn_client.specs.Answer.{IsAnswer, IsRefusal, IsInterestAnswer, IsLinkAnswer, IsInterestPacket, IsInterestRefusal, IsDataAnswer, IsDataRefusal, IsCommandPacket, IsCommandAnswer, IsCommandRefusal, IsTagAnswer, IsTagRefusal, IsShown, IsExplained, IsExplainAnswer, IsExplainRefusal, IsNotShown, keys_given, IsHmac, SignsInterest, SignsData, IsNoKey};
 ghost use Rattle.ndn_requests.specs.Parameters.{command_name};
 
-use hmac_keys::{KeyBook, hmac_sha256};
+use hmac_keys::hmac_sha256;
+use key_files::KeyBook;
 use ndn_explain::{check_of, hex_line, put_frame, put_framed_explanation};
 use ndn_jobs::{
     CommandJob, DataJob, ExplainJob, InterestJob, Job, LinkJob, TagJob, ToolFault, token_octets,

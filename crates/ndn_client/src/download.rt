@@ -8,8 +8,8 @@ ghost use Rattle.ndn_segments.specs.Assembling.{IsFinished, start};
 ghost use Rattle.ndn_client.specs.Download.{IsSegmentUnder, IsStemOf, IsStep, IsTakenIn};
 
 use crate::fault::Fault;
-use hmac_keys::KeyBook;
 use interest_pipeline::{Pipeline, PipelineFault};
+use key_files::KeyBook;
 use ndn_explain::segment_of;
 use ndn_jobs::ToolFault;
 use ndn_names::component_type::SEGMENT;

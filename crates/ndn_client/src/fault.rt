@@ -3,7 +3,7 @@ ghost use Rattle.std.specs.Prelude.{◌≡◌};
 ghost use Rattle.ndn_client.specs.Fault.{failure_status, segment_words};
 
 use file_faults::{KeyMessage, cause_of};
-use hmac_keys::KeyFault;
+use key_files::KeyFault;
 use ndn_jobs::ToolFault;
 use ndn_names::NameBuf;
 use ndn_packets::WriteFault;
@@ -112,7 +112,12 @@ impl Fault {
         match self {
             Fault::Tool(fault) => fault.exit_status(),
             Fault::NotText => 2,
-            Fault::Keys(KeyFault::BadLine(_) | KeyFault::TwiceNamed(_) | KeyFault::TooMany)
+            Fault::Keys(
+                KeyFault::BadLine(_)
+                | KeyFault::BadKey(_)
+                | KeyFault::TwiceNamed(_)
+                | KeyFault::TooMany,
+            )
             | Fault::LargeKeys
             | Fault::NoKeyFile => 1,
             Fault::NotDone(failure) => failure_status(*failure),

@@ -3,7 +3,7 @@
 use crate::download::{Download, stem_of};
 use crate::fault::Fault;
 use crate::link::Link;
-use hmac_keys::KeyBook;
+use key_files::KeyBook;
 use ndn_jobs::{GetJob, ToolFault, nonce_after};
 use ndn_names::component_type::VERSION;
 use ndn_names::{Name, NameBuf};

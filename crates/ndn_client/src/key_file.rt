@@ -2,11 +2,11 @@
 
 ghost use Rattle.std.specs.Prelude.{IfSome, MatchResult};
 ghost use Rattle.std.specs.IoError.{error_kind};
-ghost use Rattle.hmac_keys.specs.KeyReading.{AreKeys};
+ghost use Rattle.key_files.specs.KeyReading.{AreKeys};
 ghost use Rattle.ndn_client.specs.KeyFile.{AreKeysOfFile, HasCause, IsFileFault, IsKeyFileFault, IsUnread};
 
 use crate::fault::Fault;
-use hmac_keys::KeyBook;
+use key_files::KeyBook;
 use limited_reads::{MAX_KEY_FILE, read_within};
 use ndn_jobs::ToolFault;
 use std::alloc::Global;

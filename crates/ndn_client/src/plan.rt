@@ -7,7 +7,7 @@ ghost use Rattle.ndn_client.specs.Plan.{IsPlan, IsNoPlan, IsRequest, IsSent, IsN
 use crate::answer::{command_packet, interest_packet, keys_given, text_of};
 use crate::fault::Fault;
 use crate::input::packet_in;
-use hmac_keys::KeyBook;
+use key_files::KeyBook;
 use ndn_explain::put_input;
 use ndn_jobs::{Job, Ports, SendJob, ToolFault};
 use ndn_requests::{Exchange, Failure, View};

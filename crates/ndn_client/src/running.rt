@@ -9,7 +9,7 @@ use crate::key_file::{read_key_file, unread_keys};
 use crate::plan::{InputForm, Plan, fault_of_silence, input_form, plan_of};
 use crate::put::put;
 use crate::source::source_of;
-use hmac_keys::KeyBook;
+use key_files::KeyBook;
 use ndn_jobs::{Job, ToolFault, parse_words};
 use ndn_requests::{Exchange, Failure, Outcome, Progress, Silence};
 use std::env::Env;

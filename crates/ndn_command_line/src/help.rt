@@ -10,8 +10,9 @@ pub const TOOL: &str =
 the text of a name, such as /A/seg=5. N is a decimal number. ENDPOINT is a port of 127.0.0.1, such
 as 6363, or an address and a port, such as 192.0.2.1:6363 or [2001:db8::1]:6363.
 
-Each line of a key file has the URI of a key's name, a space, and the key in hexadecimal. Empty
-lines, and lines that begin with ;, are skipped.
+Each line of a key file has the URI of a key's name, a space, and the key in hexadecimal; a public
+key for ECDSA has ecdsa-p256 and a space before it. Empty lines, and lines that begin with ;, are
+skipped.
 
 Example: write a key file, sign an Interest with its key, and show the fields of the Interest.
   $ echo '/ops/KEY/1 6b6579' > ops.keys
@@ -204,8 +205,8 @@ The client waits for an answer as long as --timeout says. Without --timeout it w
 is sent again with a new Nonce, at most N times.
 
 A Data with a wrong DigestSha256 signature is not printed, and the exit status is 7. With --keys, the
-same holds for a wrong HMAC, if the file has its key. With --unverified, such a Data is printed, and
-a warning on standard error. All other signatures are not checked.
+same holds for a wrong HMAC or ECDSA signature, if the file has its key. With --unverified, such a
+Data is printed, and a warning on standard error. All other signatures are not checked.
 
 ENDPOINT is a port of 127.0.0.1, such as 6363, or an address and a port, such as 192.0.2.1:6363 or
 [2001:db8::1]:6363.
@@ -222,8 +223,8 @@ version. A file without versions has the names NAME/seg=0, NAME/seg=1 and so on.
 
 Up to 8 Interests are sent at once. An Interest without an answer is sent again with a new Nonce,
 after a time that depends on how soon other answers came; so is an Interest whose answer is a Nack
-for congestion. The signature of each segment is checked: a DigestSha256, and with --keys an HMAC, if
-the file has its key. All other signatures are not checked.
+for congestion. The signature of each segment is checked: a DigestSha256, and with --keys an HMAC or
+an ECDSA signature, if the file has its key. All other signatures are not checked.
 
 With --output, the file is written as FILE.part, which becomes FILE when the last segment is written.
 If the file cannot be fetched, FILE stays as it was.

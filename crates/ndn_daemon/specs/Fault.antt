@@ -2,7 +2,7 @@
 use Rattle.std.specs.Prelude.{ℕ, List, ◌++◌, codes, Option, Some, None, string_bytes, if◌then◌else◌}
 use Rattle.std.specs.Fmt.{decimal}
 use Rattle.std.specs.Net.Text.{socket_text}
-use Rattle.hmac_keys.specs.declared.fault.KeyFault.TheVariants.{BadLine as BadKey, TwiceNamed, TooMany, Memory as KeyMemory}
+use Rattle.key_files.specs.declared.fault.KeyFault.TheVariants.{BadLine as BadKeyLine, BadKey, TwiceNamed, TooMany, Memory as KeyMemory}
 use Rattle.info_rules.specs.Names.{fault_name}
 use Rattle.info_rules.specs.declared.fault.RulesFaultKind.{RulesFaultKind}
 use Rattle.info_rules.specs.declared.fault.RulesFaultKind.TheVariants as kinds
@@ -28,6 +28,7 @@ status_of (BadValue place wanted) = 2
 status_of NotText = 2
 status_of (Unread file path kind) = 3
 status_of (Rules fault) = rules_status fault.kind
+status_of (Keys (BadKeyLine line)) = 1
 status_of (Keys (BadKey line)) = 1
 status_of (Keys (TwiceNamed line)) = 1
 status_of (Keys TooMany) = 1

@@ -1,8 +1,8 @@
 -- The results of reading rule files and key files: the keys and the faults.
 use Rattle.std.specs.Prelude.{◌≡◌, ◌⊎◌, ◌<◌, ◌≤◌, ℕ, List, codes, length, string_bytes, ⊤}
 use Rattle.std.specs.declared.io.ErrorKind.{ErrorKind}
-use Rattle.hmac_keys.specs.KeyFile.{NamedKey}
-use Rattle.hmac_keys.specs.KeyReading.{AreKeys, IsFaultOfOctets}
+use Rattle.key_files.specs.KeyFile.{NamedKey}
+use Rattle.key_files.specs.KeyReading.{AreKeys, IsFaultOfOctets}
 use Rattle.info_rules.specs.declared.fault.RulesFaultKind.TheVariants.{TooLarge}
 use Rattle.limited_reads.specs.declared.TheConstants.{MAX_KEY_FILE}
 use Rattle.node_core.specs.Files.{IsFaultOfRules}

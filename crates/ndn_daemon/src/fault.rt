@@ -1,8 +1,8 @@
 //! The faults of the program, with their messages and exit statuses.
 use crate::advice::{advice_on_rules, is_memory};
 use file_faults::{KeyMessage, cause_of};
-use hmac_keys::KeyFault;
 use info_rules::{RulesFault, RulesFaultKind};
+use key_files::KeyFault;
 use node_core::{NodeFault, RunFault};
 use std::alloc::AllocError;
 use std::fmt;
@@ -93,7 +93,12 @@ impl Fault {
                     _ => 1,
                 }
             }
-            Fault::Keys(KeyFault::BadLine(_) | KeyFault::TwiceNamed(_) | KeyFault::TooMany)
+            Fault::Keys(
+                KeyFault::BadLine(_)
+                | KeyFault::BadKey(_)
+                | KeyFault::TwiceNamed(_)
+                | KeyFault::TooMany,
+            )
             | Fault::LargeKeys
             | Fault::Script(RunFault::BadLine(_))
             | Fault::Journal(

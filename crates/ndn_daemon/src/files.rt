@@ -1,13 +1,13 @@
 //! Reads the rule file and the key file, and reports files that cannot be read.
 ghost use Rattle.std.specs.Prelude.{IfOk, IfSome, MatchResult, codes};
 ghost use Rattle.std.specs.IoError.{error_kind};
-ghost use Rattle.hmac_keys.specs.KeyReading.{AreKeys};
+ghost use Rattle.key_files.specs.KeyReading.{AreKeys};
 ghost use Rattle.node_core.specs.Files.{AreRules};
 ghost use Rattle.ndn_daemon.specs.Files.{HasCause, IsKeyFault, IsRuleFault, AreKeysOfFile, IsKeyFileFault, IsRuleFileFault, IsUnread};
 
 use crate::fault::Fault;
-use hmac_keys::KeyBook;
 use info_rules::{Rules, RulesFault, RulesFaultKind};
+use key_files::KeyBook;
 use limited_reads::{MAX_KEY_FILE, read_within};
 use node_core::RunFault;
 use std::alloc::Global;

@@ -1,6 +1,6 @@
 //! The rule file and the key file of a node, which are read again when they change.
 ghost use Rattle.std.specs.Prelude.{IfOk};
-ghost use Rattle.hmac_keys.specs.KeyReading.{AreKeys};
+ghost use Rattle.key_files.specs.KeyReading.{AreKeys};
 ghost use Rattle.node_core.specs.Files.{AreRules};
 
 use crate::fault::{Fault, JournalFault};
@@ -10,8 +10,8 @@ use crate::files::{
 };
 use crate::machine_clock::MachineClock;
 use crate::watched_ports::RuleSource;
-use hmac_keys::KeyBook;
 use info_rules::Rules;
+use key_files::KeyBook;
 use node_ports::{FileOctets, Moments, Renewal};
 use std::fs;
 use std::fs::File;

@@ -4,8 +4,8 @@ use Rattle.hex.specs.Hex.{decode_of, is_hex_digit}
 use Rattle.hex.specs.declared.error.FromHexError.{FromHexError}
 use Rattle.hex.proofs.HexLemmas.{decode_of-digits, decode_of-ok}
 use Rattle.std.proofs.lemmas.List.Elements.{All-nil}
-use Rattle.hmac_keys.specs.KeyFile.{NamedKey, lines_of}
-use Rattle.hmac_keys.specs.KeyReading.{at_last_space}
+use Rattle.key_files.specs.KeyFile.{NamedKey, lines_of}
+use Rattle.key_files.specs.KeyReading.{at_last_space}
 use Rattle.ndn_explain.specs.Input.{is_send, parts_of, repeated, IsExplainedPacket, IsExplainedPart, IsExplainedLine, AreExplained, IsExplainedInput}
 
 -- an empty text is one empty line

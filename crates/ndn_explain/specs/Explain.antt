@@ -2,7 +2,7 @@
 -- `show`, the lines of the packet's SignatureInfo (NDN Packet Format 0.3, "Signature"), and the
 -- line of the signature check. Then come the lines of what the packet carries: a segment, a
 -- command, a reply, dataset entries or a text.
-use Rattle.std.specs.Prelude.{ℕ, List, [], ◌∷◌, ◌++◌, codes, Option, None, Some, ◌==◌, if◌then◌else◌}
+use Rattle.std.specs.Prelude.{ℕ, List, [], ◌∷◌, ◌++◌, codes, Option, None, Some, Bool, is_some, ◌==◌, ◌&&◌, if◌then◌else◌}
 use Rattle.std.specs.List.{list_all}
 use Rattle.std.specs.Option.{option_map}
 use Rattle.std.specs.Fmt.{decimal}
@@ -31,19 +31,20 @@ info_lines info =
     ++ (optional_line (codes "time") (option_map decimal info.time)
     ++ optional_line (codes "seq") (option_map decimal info.seq))
 
--- the line of a signature that is neither a DigestSha256 nor an HMAC, and so is never verified; no
--- line for the other two types
-abbrev pub unverified_lines : ℕ → List ℕ
-unverified_lines kind =
+-- The line of a signature that is not verified; no line for a DigestSha256 or an HMAC, and no line
+-- for an ECDSA signature (type 3), if signatures are checked.
+abbrev pub unverified_lines : Bool → ℕ → List ℕ
+unverified_lines checked kind =
     if kind == DIGEST_SHA256 then [] else (
-    if kind == HMAC_WITH_SHA256 then [] else
-    codes "signature: type " ++ (decimal kind ++ codes ", not verified\n"))
+    if kind == HMAC_WITH_SHA256 then [] else (
+    if checked && (kind == 3) then [] else
+    codes "signature: type " ++ (decimal kind ++ codes ", not verified\n")))
 
 -- the lines of the SignatureInfo; no lines for an unsigned packet
-abbrev pub signer_lines : Option PlainSignature → List ℕ
-signer_lines None = []
-signer_lines (Some signature) =
-    info_lines signature.info ++ unverified_lines signature.info.kind
+abbrev pub signer_lines : Bool → Option PlainSignature → List ℕ
+signer_lines checked None = []
+signer_lines checked (Some signature) =
+    info_lines signature.info ++ unverified_lines checked signature.info.kind
 
 abbrev pub signature_of : PlainFrame → Option PlainSignature
 signature_of (AnInterest whole i) = i.signature
@@ -93,7 +94,7 @@ named_frame_lines Idle = frame_lines Idle
 abbrev pub explanation : PlainFrame → Option TagCheck → List ℕ
 explanation frame check =
     named_frame_lines frame
-    ++ (signer_lines (signature_of frame) ++ (check_lines check ++ meaning frame))
+    ++ (signer_lines (is_some check) (signature_of frame) ++ (check_lines check ++ meaning frame))
 
 -- the line of the PIT token if there is a token (NDNLPv2, "PIT Token"), followed by the explanation
 -- of the frame

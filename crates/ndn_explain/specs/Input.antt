@@ -4,9 +4,9 @@
 use Rattle.std.specs.Prelude.{◌≡◌, ◌⊎◌, ℕ, List, [], ◌∷◌, ◌++◌, codes, Option, Result, Ok, Err, Bool, false, ◌==◌, if◌then◌else◌}
 use Rattle.hex.specs.declared.error.FromHexError.{FromHexError}
 use Rattle.hex.specs.Hex.{decode_of}
-use Rattle.hmac_keys.specs.KeyFile.{NamedKey, lines_of}
+use Rattle.key_files.specs.KeyFile.{NamedKey, lines_of}
 use Rattle.ndn_tlv.specs.Options.{on_option}
-use Rattle.hmac_keys.specs.KeyReading.{at_last_space}
+use Rattle.key_files.specs.KeyReading.{at_last_space}
 use Rattle.ndn_packets.specs.declared.fault.PacketFault.{PacketFault}
 use Rattle.ndn_packets.specs.Packet.{PlainFramed}
 use Rattle.ndn_packets.specs.Link.{IsFramed}

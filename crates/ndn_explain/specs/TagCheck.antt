@@ -4,7 +4,9 @@ use Rattle.std.specs.Prelude.{◌≡◌, ◌≢◌, ◌⊎◌, ℕ, List, [], �
 use Rattle.sha2.specs.Sha256.{sha256}
 use Rattle.ndn_tlv.specs.Element.{Field}
 use Rattle.hmac_keys.specs.Mac.{Mac}
-use Rattle.hmac_keys.specs.KeyFile.{NamedKey, IsAmong}
+use Rattle.key_files.specs.declared.key.Key.TheVariants as keys
+use Rattle.key_files.specs.KeyFile.{NamedKey, IsAmong}
+use Rattle.key_files.specs.PublicKey.{IsEcdsaOf}
 use Rattle.ndn_packets.specs.declared.covered.Parts.{Parts}
 use Rattle.ndn_packets.specs.declared.types.TheConstants.{DIGEST_SHA256, HMAC_WITH_SHA256}
 use Rattle.ndn_packets.specs.Packet.{PlainLocator, KeyName, PlainSignature, PlainFrame, AnInterest, AData, ANack, Idle}
@@ -24,12 +26,14 @@ IsValueCheck value right Wrong = value ≢ right
 IsValueCheck value right UnknownKey = ⊥
 IsValueCheck value right Unchecked = ⊥
 
--- the result of checking an HMAC under the key with this name; the result is UnknownKey if the book
--- has no key of this name
+-- the result of checking an HMAC under the secret with this name; the result is UnknownKey if the
+-- book has no secret of this name
 abbrev pub IsNamedCheck : List Field → List NamedKey → List ℕ → List ℕ → TagCheck → Type 0
-IsNamedCheck name book value octets UnknownKey = (key : List ℕ) → IsAmong (name, key) book → ⊥
+IsNamedCheck name book value octets UnknownKey =
+    (secret : List ℕ) → IsAmong (name, keys.Hmac secret) book → ⊥
 IsNamedCheck name book value octets check =
-    (key : List ℕ) × IsAmong (name, key) book × IsValueCheck value (Mac key octets) check
+    (secret : List ℕ) × IsAmong (name, keys.Hmac secret) book
+    × IsValueCheck value (Mac secret octets) check
 
 -- the result of checking an HMAC under the key that a KeyLocator names; the key is unknown if the
 -- KeyLocator is not a Name
@@ -37,14 +41,40 @@ abbrev pub IsLocatorCheck : PlainLocator → List NamedKey → List ℕ → List
 IsLocatorCheck (KeyName name) book value octets check = IsNamedCheck name book value octets check
 IsLocatorCheck locator book value octets check = check ≡ UnknownKey
 
--- the result of checking a signature over these octets; a signature that is neither a DigestSha256
--- nor an HMAC is not checked
+-- the result of checking an ECDSA signature under a public key
+abbrev pub IsEcdsaValueCheck : List ℕ → List ℕ → List ℕ → TagCheck → Type 0
+IsEcdsaValueCheck key value octets Right = IsEcdsaOf key octets value
+IsEcdsaValueCheck key value octets Wrong = ¬ (IsEcdsaOf key octets value)
+IsEcdsaValueCheck key value octets UnknownKey = ⊥
+IsEcdsaValueCheck key value octets Unchecked = ⊥
+
+-- the result of checking an ECDSA signature under the public key with this name; the result is
+-- UnknownKey if the book has no public key of this name
+abbrev pub IsNamedEcdsaCheck : List Field → List NamedKey → List ℕ → List ℕ → TagCheck → Type 0
+IsNamedEcdsaCheck name book value octets UnknownKey =
+    (key : List ℕ) → IsAmong (name, keys.Ecdsa key) book → ⊥
+IsNamedEcdsaCheck name book value octets check =
+    (key : List ℕ) × IsAmong (name, keys.Ecdsa key) book × IsEcdsaValueCheck key value octets check
+
+-- the result of checking an ECDSA signature with the key that a KeyLocator names; the key is unknown
+-- if the KeyLocator is not a Name
+abbrev pub IsEcdsaCheck : PlainLocator → List NamedKey → List ℕ → List ℕ → TagCheck → Type 0
+IsEcdsaCheck (KeyName name) book value octets check =
+    IsNamedEcdsaCheck name book value octets check
+IsEcdsaCheck locator book value octets check = check ≡ UnknownKey
+
+-- The result of checking a signature over these octets. SignatureType 3 is
+-- SignatureSha256WithEcdsa (NDN Packet Format 0.3). A signature of another type than DigestSha256,
+-- HMAC and ECDSA is not checked.
 abbrev pub IsKindCheck : PlainSignature → List NamedKey → List ℕ → TagCheck → Type 0
 IsKindCheck s book octets check =
     ((s.info.kind ≡ DIGEST_SHA256) × IsValueCheck s.value (sha256 octets) check)
     ⊎ (((s.info.kind ≡ HMAC_WITH_SHA256)
     × IsLocatorCheck s.info.locator book s.value octets check)
-    ⊎ ((s.info.kind ≢ DIGEST_SHA256) × (s.info.kind ≢ HMAC_WITH_SHA256) × (check ≡ Unchecked)))
+    ⊎ (((s.info.kind ≡ 3)
+    × IsEcdsaCheck s.info.locator book s.value octets check)
+    ⊎ ((s.info.kind ≢ DIGEST_SHA256) × (s.info.kind ≢ HMAC_WITH_SHA256)
+    × (s.info.kind ≢ 3) × (check ≡ Unchecked))))
 
 -- the result of checking a signature over the covered octets; the result is `Unchecked` if there
 -- are no covered octets

@@ -15,7 +15,7 @@ use crate::show::{
     put_frame, put_interest, put_label, put_name, put_number, put_optional, put_value,
 };
 use crate::tag_check::{TagCheck, check_tag};
-use hmac_keys::KeyBook;
+use key_files::{KeyBook, SHA256_WITH_ECDSA};
 use ndn_packets::types::{CONGESTION, DUPLICATE, NO_ROUTE};
 use ndn_packets::{DIGEST_SHA256, Data, Frame, Framed, HMAC_WITH_SHA256, Locator, Signature};
 use ndn_tlv::Memory;
@@ -64,7 +64,7 @@ pub fn put_explanation(
         ≡ text.old.items ++ explanation (plain_frame frame.now) check) }
 {
     put_named_frame(alloc, text, frame)?;
-    put_signer(alloc, text, signature_of(frame))?;
+    put_signer(alloc, text, check.is_some(), signature_of(frame))?;
     put_check(text, check)?;
     put_meaning(alloc, text, frame)
 }
@@ -171,30 +171,33 @@ fn put_text(text: &mut Vec<u8>, content: &[u8]) -> Result<(), Memory>
 }
 
 /// Appends the lines of the SignatureInfo of a signed packet, or nothing if `signature` is `None`.
+/// `checked` means that signatures are checked.
 fn put_signer(
     alloc: Global,
     text: &mut Vec<u8>,
+    checked: bool,
     signature: Option<Signature<'_>>,
 ) -> Result<(), Memory>
     ensures { OnOk result (text.new.items ≡ text.old.items
-        ++ signer_lines (option_map plain_signature signature.entry)) }
+        ++ signer_lines checked (option_map plain_signature signature.entry)) }
 {
     match signature {
         None => Ok(()),
         Some(signature) => {
             put_info(alloc, text, &signature)?;
-            put_unverified(text, signature.kind)
+            put_unverified(text, checked, signature.kind)
         }
     }
 }
 
-/// Appends the line of a signature that is neither a DigestSha256 nor an HMAC, and so is never
-/// verified. Appends nothing for the other two types.
-fn put_unverified(text: &mut Vec<u8>, kind: u64) -> Result<(), Memory>
-    ensures { OnOk result (text.new.items ≡ text.old.items ++ unverified_lines kind) }
+/// Appends the line of a signature that is not verified. Appends nothing for a DigestSha256 or an
+/// HMAC, and nothing for an ECDSA signature, if signatures are checked.
+fn put_unverified(text: &mut Vec<u8>, checked: bool, kind: u64) -> Result<(), Memory>
+    ensures { OnOk result (text.new.items ≡ text.old.items ++ unverified_lines checked kind) }
 {
     match kind {
         DIGEST_SHA256 | HMAC_WITH_SHA256 => Ok(()),
+        SHA256_WITH_ECDSA if checked => Ok(()),
         _ => writeln!(text, "signature: type {kind}, not verified").map_err(|_| Memory),
     }
 }

@@ -1,7 +1,7 @@
 //! Explaining the lines of a text.
 
 ghost use Rattle.std.specs.Prelude.{◌≡◌, ◌≢◌, ◌<◌, ◌⊎◌, ◌++◌, ◌∷◌, [], List, ℕ, Ok, OnOk, codes, option_map, length};
-ghost use Rattle.hmac_keys.specs.KeyFile.{lines_of};
+ghost use Rattle.key_files.specs.KeyFile.{lines_of};
 ghost use Rattle.ndn_explain.specs.Input.{is_send, parts_of, repeated, IsExplainedPacket, IsExplainedPart, IsExplainedLine, IsExplainedInput};
 ghost use Rattle.hex.specs.Hex.{decode_of};
 ghost use Rattle.ndn_packets.specs.FaultName.{packet_name};
@@ -10,7 +10,7 @@ ghost use Rattle.ndn_explain.specs.Show.{named_line};
 use crate::explain::{check_of, put_framed_explanation};
 use crate::show::{put_label, put_value};
 use hex::FromHexError;
-use hmac_keys::{KeyBook, first_line};
+use key_files::{KeyBook, first_line};
 use ndn_packets::{PacketFault, read_lp};
 use ndn_tlv::Memory;
 use std::alloc::Global;

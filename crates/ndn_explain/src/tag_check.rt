@@ -5,9 +5,10 @@ ghost use Rattle.sha2.specs.Sha256.{sha256};
 ghost use Rattle.hmac_keys.specs.Mac.{Mac};
 ghost use Rattle.ndn_packets.specs.Packet.{AnInterest, plain_signature, plain_locator};
 ghost use Rattle.ndn_packets.specs.View.{plain_frame, plain_interest};
-ghost use Rattle.ndn_explain.specs.TagCheck.{IsValueCheck, IsLocatorCheck, IsKindCheck, IsPartsCheck, IsSignedCheck, IsTagCheck, parts_of};
+ghost use Rattle.ndn_explain.specs.TagCheck.{IsValueCheck, IsLocatorCheck, IsEcdsaValueCheck, IsEcdsaCheck, IsKindCheck, IsPartsCheck, IsSignedCheck, IsTagCheck, parts_of};
 
-use hmac_keys::{KeyBook, hmac_sha256, tags_equal};
+use hmac_keys::{hmac_sha256, tags_equal};
+use key_files::{EcdsaKey, KeyBook, SHA256_WITH_ECDSA};
 use ndn_packets::{DIGEST_SHA256, Frame, HMAC_WITH_SHA256, Interest, Locator, Parts, Signature};
 use sha2::{Digest, Sha256};
 
@@ -18,9 +19,9 @@ pub enum TagCheck {
     Right,
     /// The value is not right for the octets that the signature covers.
     Wrong,
-    /// The KeyLocator names no key of the key file.
+    /// The KeyLocator names no key of the key file that is for this type of signature.
     UnknownKey,
-    /// The signature is neither a DigestSha256 nor an HMAC, or it covers no octets.
+    /// The signature is none of DigestSha256, HMAC and ECDSA, or it covers no octets.
     Unchecked,
 }
 
@@ -66,6 +67,7 @@ fn check_value(signature: Signature<'_>, parts: Parts<'_>, book: &KeyBook) -> Ta
     match signature.kind {
         DIGEST_SHA256 => compared(signature.value, &digest_of(parts)),
         HMAC_WITH_SHA256 => check_hmac(signature, parts, book),
+        SHA256_WITH_ECDSA => check_ecdsa(signature, parts, book),
         _ => TagCheck::Unchecked,
     }
 }
@@ -85,6 +87,33 @@ fn check_hmac(signature: Signature<'_>, parts: Parts<'_>, book: &KeyBook) -> Tag
             signature.value,
             &hmac_sha256(key, parts.first, parts.second),
         ),
+    }
+}
+
+/// Checks an ECDSA signature with the public key that the KeyLocator names. Returns `UnknownKey` if
+/// the book has no such key, or if the KeyLocator is not a name.
+fn check_ecdsa(signature: Signature<'_>, parts: Parts<'_>, book: &KeyBook) -> TagCheck
+    ensures { IsEcdsaCheck (plain_locator signature.entry.locator) book.now
+        signature.entry.value.now (parts_of parts.entry) result }
+{
+    let Locator::Name(name) = signature.locator else {
+        return TagCheck::UnknownKey;
+    };
+    match book.find_ecdsa(name) {
+        None => TagCheck::UnknownKey,
+        Some(key) => verified(key, parts, signature.value),
+    }
+}
+
+/// Returns `Right` if the value is an ECDSA signature of the covered octets under the key, and
+/// `Wrong` otherwise.
+fn verified(key: &EcdsaKey, parts: Parts<'_>, value: &[u8]) -> TagCheck
+    ensures { IsEcdsaValueCheck key.now value.now (parts_of parts.entry) result }
+{
+    if key.verifies(parts.first, parts.second, value) {
+        TagCheck::Right
+    } else {
+        TagCheck::Wrong
     }
 }
 

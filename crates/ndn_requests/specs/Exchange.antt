@@ -2,7 +2,7 @@
 use Rattle.std.specs.Prelude.{◌≡◌, ℕ, List, [], ◌++◌, nat_lt, Option, None, Some, Result, Ok, Err, Bool, true, false, unwrap_or, not, ◌&&◌, if◌then◌else◌, ⊤}
 use Rattle.ndn_tlv.specs.Element.{Field}
 use Rattle.ndn_names.specs.View.{components}
-use Rattle.hmac_keys.specs.KeyFile.{NamedKey}
+use Rattle.key_files.specs.KeyFile.{NamedKey}
 use Rattle.ndn_packets.specs.declared.fault.PacketFault.{PacketFault}
 use Rattle.ndn_packets.specs.declared.fault.WriteFault.{WriteFault}
 use Rattle.ndn_packets.specs.declared.fault.WriteFault.TheVariants.{Memory}
@@ -87,7 +87,7 @@ forged_name (ANack reason whole i) check = None
 forged_name Idle check = None
 
 -- the name of the frame if it is a Data with a wrong signature, otherwise None; a signature is
--- checked if it is a DigestSha256, or an HMAC with a key of the book
+-- checked if it is a DigestSha256, or an HMAC or an ECDSA signature with a key of the book
 abbrev pub IsForgedFrame : List NamedKey → PlainFrame → Option (List Field) → Type 0
 IsForgedFrame book frame name =
     (check : Option TagCheck) × IsTagCheck frame book check × (name ≡ forged_name frame check)

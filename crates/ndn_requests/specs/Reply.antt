@@ -7,7 +7,7 @@ use Rattle.ndn_tlv.specs.Reading.{elements_of, nni_at}
 use Rattle.ndn_tlv.specs.Fields.{first_of, single}
 use Rattle.ndn_tlv.specs.Writing.{octets}
 use Rattle.ndn_names.specs.declared.component_type.TheConstants.{GENERIC}
-use Rattle.hmac_keys.specs.KeyFile.{NamedKey}
+use Rattle.key_files.specs.KeyFile.{NamedKey}
 use Rattle.ndn_packets.specs.declared.command_types.TheConstants.{CONTROL_RESPONSE, STATUS_CODE, REPO_COMMAND_PARAMETER, REPO_COMMAND_RESPONSE, REPO_STATUS_CODE}
 use Rattle.ndn_packets.specs.declared.fault.PacketFault.{PacketFault}
 use Rattle.ndn_packets.specs.Packet.{PlainInterest, PlainData, PlainFrame, AnInterest, AData, ANack, Idle}

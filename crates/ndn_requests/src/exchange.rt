@@ -10,7 +10,7 @@ ghost use Rattle.ndn_requests.specs.Exchange.{IsRequest, IsNoRequest, IsForged, 
 use crate::fault::Silence;
 use crate::names::NodeList;
 use crate::reply::{Outcome, judge, put_explained, silence_of};
-use hmac_keys::KeyBook;
+use key_files::KeyBook;
 use ndn_explain::{Layout, TagCheck, check_of, hex_line, last_segment, put_entries, segment_of};
 use ndn_names::component_type::SEGMENT;
 use ndn_names::{Name, NameBuf};
@@ -81,7 +81,7 @@ struct Turn {
 
 impl Exchange {
     ghost use Rattle.std.specs.Prelude.{◌≡◌, ◌<◌, ◌++◌, IfOk, MatchResult, Option, Some, None, unwrap_or};
-    ghost use Rattle.hmac_keys.specs.KeyFile.{NamedKey};
+    ghost use Rattle.key_files.specs.KeyFile.{NamedKey};
     ghost use Rattle.ndn_names.specs.View.{components};
     ghost use Rattle.ndn_packets.specs.View.{plain_data};
     ghost use Rattle.ndn_packets.specs.Packet.{AData};
@@ -293,8 +293,8 @@ fn put_content(contents: &mut Vec<u8>, content: Option<&[u8]>) -> Result<(), Mem
 }
 
 /// Returns the name of the Data in the datagram if the signature of the Data is wrong. Returns
-/// `None` for any other datagram. A signature is checked if it is a DigestSha256, or an HMAC with a
-/// key of the book.
+/// `None` for any other datagram. A signature is checked if it is a DigestSha256, or an HMAC or an
+/// ECDSA signature with a key of the book.
 pub fn forged_in(alloc: Global, datagram: &[u8], book: &KeyBook) -> Result<Option<NameBuf>, Memory>
     ensures { IfOk result (IsForged book.now (frame_at datagram.now)) }
 {

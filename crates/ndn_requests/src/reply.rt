@@ -8,7 +8,7 @@ ghost use Rattle.ndn_explain.specs.Reply.{written_content};
 ghost use Rattle.ndn_requests.specs.Reply.{Outcome, code_in, is_insert, is_word, explained_lines, long_lines, written_lines, silence_of, is_local, done_if, node_outcome, repository_outcome, is_of_repository, content_outcome, reply_outcome, is_command, is_right, data_outcome, is_same, is_same_name, frame_outcome, written_outcome, IsFrameJudged, IsDatagramJudged, IsJudged, repository_number};
 
 use crate::fault::{Failure, Silence};
-use hmac_keys::KeyBook;
+use key_files::KeyBook;
 use ndn_explain::{
     TagCheck, check_of, parameters_in, put_explanation, put_written, written_content,
 };

@@ -13,8 +13,8 @@ mod scripts;
 mod streams;
 mod udp;
 
-use hmac_keys::KeyBook;
 use info_rules::{InfoTree, Rules};
+use key_files::KeyBook;
 use ndn_names::NameBuf;
 use node_core::{Node, NodeParts, run_script};
 use octets::hexadecimal_of;

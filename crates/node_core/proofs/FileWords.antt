@@ -1,10 +1,10 @@
 -- Words that encode no valid rule file, or no valid key file.
 use Rattle.std.proofs.Common.{◌≡◌, ℕ, List, ap, subst, inl, inr}
-use Rattle.hmac_keys.specs.KeyFile.{NamedKey}
-use Rattle.hmac_keys.specs.KeyReading.{AreKeys, IsFaultOfOctets}
-use Rattle.hmac_keys.specs.declared.fault.KeyFault.{KeyFault}
-use Rattle.hmac_keys.specs.declared.fault.KeyFault.TheVariants as keys
-use Rattle.hmac_keys.proofs.Files.{again}
+use Rattle.key_files.specs.KeyFile.{NamedKey}
+use Rattle.key_files.specs.KeyReading.{AreKeys, IsFaultOfOctets}
+use Rattle.key_files.specs.declared.fault.KeyFault.{KeyFault}
+use Rattle.key_files.specs.declared.fault.KeyFault.TheVariants as keys
+use Rattle.key_files.proofs.Files.{again}
 use Rattle.info_rules.specs.Meaning.{IsRuleFile}
 use Rattle.info_rules.specs.Rule.{PlainRule}
 use Rattle.info_rules.specs.Tree.{PlainEntry}

@@ -4,8 +4,8 @@ use Rattle.std.specs.Prelude.{◌⊎◌}
 use Rattle.std.specs.Fmt.{decimal}
 use Rattle.std.proofs.lemmas.Fmt.{decimal_injective}
 use Rattle.hex.specs.Hex.{decode_of}
-use Rattle.hmac_keys.specs.KeyFile.{KeysOf, NamedKey}
-use Rattle.hmac_keys.proofs.Files.{again}
+use Rattle.key_files.specs.KeyFile.{KeysOf, NamedKey}
+use Rattle.key_files.proofs.Files.{again}
 use Rattle.info_rules.specs.Meaning.{IsRuleFile}
 use Rattle.info_rules.specs.Rule.{PlainRule}
 use Rattle.info_rules.specs.Tree.{PlainEntry}

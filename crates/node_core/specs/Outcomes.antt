@@ -1,6 +1,6 @@
 -- The handling of consecutive events.
 use Rattle.std.specs.Prelude.{◌≡◌, List, [], ◌∷◌}
-use Rattle.hmac_keys.specs.KeyFile.{NamedKey}
+use Rattle.key_files.specs.KeyFile.{NamedKey}
 use Rattle.info_rules.specs.Rule.{PlainRule}
 use Rattle.ndn_tlv.specs.Element.{Field}
 use Rattle.forwarder.specs.Event.{PlainEvent}

@@ -1,7 +1,7 @@
 -- Rules and keys that replace those in force, with the octets of their files.
 use Rattle.std.specs.Prelude.{ℕ, List}
-use Rattle.hmac_keys.specs.KeyFile.{NamedKey}
-use Rattle.hmac_keys.specs.KeyReading.{AreKeys}
+use Rattle.key_files.specs.KeyFile.{NamedKey}
+use Rattle.key_files.specs.KeyReading.{AreKeys}
 use Rattle.info_rules.specs.Rule.{PlainRule}
 use Rattle.node_core.specs.Files.{AreRules}
 

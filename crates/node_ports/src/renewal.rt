@@ -2,8 +2,8 @@
 ghost use Rattle.std.specs.Prelude.{◌≡◌};
 ghost use Rattle.node_ports.specs.Renewal.{AreOfFiles};
 
-use hmac_keys::KeyBook;
 use info_rules::Rules;
+use key_files::KeyBook;
 use std::marker::Model;
 
 /// Rules and keys, with the octets of the rule file and of the key file that they were read from.

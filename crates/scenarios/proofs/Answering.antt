@@ -3,8 +3,8 @@ use Rattle.std.proofs.Common.{◌≡◌, ℕ, List, [], ◌++◌, refl, sym, ap,
 use Rattle.forwarder.specs.Node.{NodeState}
 use Rattle.forwarder.specs.Parts.{first_node, parts_fault}
 use Rattle.forwarder.specs.declared.node.NodeFault.{NodeFault}
-use Rattle.hmac_keys.specs.KeyFile.{NamedKey}
-use Rattle.hmac_keys.specs.KeyReading.{AreKeys}
+use Rattle.key_files.specs.KeyFile.{NamedKey}
+use Rattle.key_files.specs.KeyReading.{AreKeys}
 use Rattle.info_rules.specs.Rule.{PlainRule}
 use Rattle.ndn_names.specs.ReadsAs.{ReadsAs}
 use Rattle.ndn_tlv.specs.Element.{Field}

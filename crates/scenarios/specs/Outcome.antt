@@ -1,8 +1,8 @@
 -- The answers that a scenario's script has on a new node.
 use Rattle.std.specs.Prelude.{◌≡◌, ◌⊎◌, ℕ, List, ◌++◌, codes, None}
 use Rattle.std.specs.Fmt.{decimal}
-use Rattle.hmac_keys.specs.KeyFile.{NamedKey}
-use Rattle.hmac_keys.specs.KeyReading.{AreKeys}
+use Rattle.key_files.specs.KeyFile.{NamedKey}
+use Rattle.key_files.specs.KeyReading.{AreKeys}
 use Rattle.info_rules.specs.Rule.{PlainRule}
 use Rattle.ndn_names.specs.ReadsAs.{ReadsAs}
 use Rattle.ndn_tlv.specs.Element.{Field}

@@ -1,14 +1,14 @@
 //! Plays the script of a scenario on a new node.
 ghost use Rattle.std.specs.Prelude.{◌≡◌, ◌++◌, IfOk, IfSome, OnOk};
-ghost use Rattle.hmac_keys.specs.KeyReading.{AreKeys};
+ghost use Rattle.key_files.specs.KeyReading.{AreKeys};
 ghost use Rattle.ndn_names.specs.ReadsAs.{ReadsAs};
 ghost use Rattle.forwarder.specs.Parts.{first_node, parts_fault};
 ghost use Rattle.node_core.specs.Files.{AreRules};
 ghost use Rattle.scenarios.specs.Outcome.{AreAnswers, AreAnswersTo, bad_line};
 
 use crate::scenario::Scenario;
-use hmac_keys::KeyBook;
 use itoa::Buffer;
+use key_files::KeyBook;
 use ndn_names::NameBuf;
 use ndn_tlv::Memory;
 use node_core::{NodeParts, RunFault, read_rules, run_script};

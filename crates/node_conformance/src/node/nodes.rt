@@ -1,7 +1,7 @@
 use super::octets::octets_of;
 use super::{on_node, rules};
-use hmac_keys::KeyBook;
 use info_rules::Rules;
+use key_files::KeyBook;
 use ndn_names::NameBuf;
 use node_core::{Event, Node, NodeFault, NodeParts, Outbox, RulesAndKeys, Scope, Verdict};
 use std::alloc::Global;

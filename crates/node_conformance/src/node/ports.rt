@@ -1,5 +1,5 @@
 use super::{on_node, spelled};
-use hmac_keys::KeyBook;
+use key_files::KeyBook;
 use node_core::{Event, Node, Outbox, Scope, put_refused, put_sends, put_verdict, read_rules};
 use node_ports::{
     FileOctets, MemoryPorts, OwnedArrival, Ports, Renewal, ServeFault, Served, Turn, serve,

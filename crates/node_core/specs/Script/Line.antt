@@ -3,8 +3,8 @@ use Rattle.std.specs.Prelude.{◌≡◌, ◌≢◌, ℕ, ◌<◌, ◌≤◌, ◌
 use Rattle.std.specs.List.{AllByRecursion, join_with_byte}
 use Rattle.std.specs.Fmt.{decimal}
 use Rattle.hex.specs.Hex.{decode_of}
-use Rattle.hmac_keys.specs.KeyFile.{NamedKey}
-use Rattle.hmac_keys.specs.KeyReading.{AreKeys}
+use Rattle.key_files.specs.KeyFile.{NamedKey}
+use Rattle.key_files.specs.KeyReading.{AreKeys}
 use Rattle.info_rules.specs.Rule.{PlainRule}
 use Rattle.forwarder.specs.declared.event.Scope.{Scope}
 use Rattle.forwarder.specs.declared.event.Scope.TheVariants.{Local, Far}

@@ -2,8 +2,8 @@
 use Rattle.std.specs.Prelude.{◌≡◌, ◌<◌, ◌^◌, ℕ, List, ◌++◌, codes}
 use Rattle.std.specs.Borrow.{Bor}
 use Rattle.std.specs.Fmt.{decimal}
-use Rattle.hmac_keys.specs.KeyFile.{NamedKey}
-use Rattle.hmac_keys.specs.KeyReading.{AreKeys}
+use Rattle.key_files.specs.KeyFile.{NamedKey}
+use Rattle.key_files.specs.KeyReading.{AreKeys}
 use Rattle.info_rules.specs.Rule.{PlainRule}
 use Rattle.ndn_packets.specs.Writing.{AreOctets}
 use Rattle.forwarder.specs.Event.{PlainEvent, Packet, FaceUp, FaceDown, Tick, NewRules}

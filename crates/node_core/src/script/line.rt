@@ -1,5 +1,5 @@
 ghost use Rattle.std.specs.Prelude.{◌≡◌, ◌∷◌, ◌++◌, List, codes, IfSome, IfNone, IfOk};
-ghost use Rattle.hmac_keys.specs.KeyFile.{NamedKey};
+ghost use Rattle.key_files.specs.KeyFile.{NamedKey};
 ghost use Rattle.info_rules.specs.Rule.{PlainRule};
 ghost use Rattle.forwarder.specs.Event.{PlainEvent, plain_owned};
 ghost use Rattle.node_core.specs.Script.Line.{LineSpells, LineIs, SpellsKeys, SpellsRules};
@@ -7,8 +7,8 @@ ghost use Rattle.node_core.specs.Script.Line.{LineSpells, LineIs, SpellsKeys, Sp
 use crate::files::read_rules;
 use crate::script::word::{cut, octets_of, parse_decimal, scope_of, three_words};
 use forwarder::{Event, OwnedEvent, RulesAndKeys};
-use hmac_keys::{KeyBook, KeyFault};
 use info_rules::{Rules, RulesFaultKind};
+use key_files::{KeyBook, KeyFault};
 use ndn_tlv::Memory;
 use std::alloc::Global;
 

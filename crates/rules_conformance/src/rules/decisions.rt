@@ -2,8 +2,8 @@
 
 use super::reading::rules_of;
 use crate::rows::assert_right;
-use hmac_keys::KeyBook;
 use info_rules::{Decision, Kind, Packet, RuleNo, Rules};
+use key_files::KeyBook;
 use ndn_names::{Name, NameBuf};
 use ndn_packets::{DataWriter, Frame, InterestWriter, Sign, read_frame};
 use std::alloc::Global;
@@ -304,7 +304,8 @@ octets 060c070308014116031b01011700 → denied 0 SigType
 data /A by /ops/KEY/1 key → denied 0 SigType
 ";
 
-/// A checker for RSA or ECDSA refuses RSA signatures and HMAC signatures.
+/// A checker for RSA refuses every signature. A checker for ECDSA refuses RSA signatures and HMAC
+/// signatures.
 #[test]
 fn unsupported_signatures(rt: HostRuntime) {
     assert_right(&rt, first_wrong_of(rt.alloc(), UNSUPPORTED));

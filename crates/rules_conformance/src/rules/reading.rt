@@ -169,7 +169,7 @@ fn reason_text(alloc: Global, name: &str) -> Option<String> {
 const REASON_TEXTS: &str = "
 NotSigned -> NotSigned: the Interest has no signature; sign it, since each command must be signed
 Shape -> Shape: no SignatureTime, or the digest is not last in the name; add a time, put the digest last
-SigType -> SigType: no checker takes this type of signature; sign with the rule's sig-type
+SigType -> SigType: no checker takes this type, or the named key is for another; use the rule's sig-type
 KeyLocator -> KeyLocator: the rule does not accept this key; sign with another, or widen the key-locator
 KeyUnknown -> KeyUnknown: the key file lacks this key; add its line
 Tag -> Tag: the octets were changed, or the two sides have different keys; compare the keys

@@ -1,5 +1,5 @@
 use Rattle.std.proofs.Common.{◌≡◌, true}
-use Rattle.hmac_keys.proofs.Lines.{space_parts, space_whole}
+use Rattle.key_files.proofs.Lines.{space_parts, space_whole}
 use Rattle.ndn_explain.specs.Input.{is_send}
 use Rattle.ndn_explain.proofs.Inputs.{parts_found, parts_whole}
 use Rattle.ndn_explain.proofs.input.parts_of.Goals as goal

@@ -1,5 +1,5 @@
 use Rattle.std.proofs.Common.{ℕ, List, subst}
-use Rattle.hmac_keys.specs.KeyReading.{IsFaultOfOctets}
+use Rattle.key_files.specs.KeyReading.{IsFaultOfOctets}
 use Rattle.node_core.specs.Script.Line.{HexSpells}
 use Rattle.node_core.proofs.FileWords.{no_keys}
 use Rattle.node_core.proofs.script.line.keys_of.Goals as goal
