@@ -12,6 +12,11 @@ use Rattle.ndn_daemon.specs.declared.udp_options.UdpOptions.{UdpOptions}
 use Rattle.ndn_daemon.specs.Endpoint.{AreEndpoints, IsEndpoint, IsLoopback, MayBePeersOf}
 use Rattle.ndn_daemon.specs.Options.{MayBePath, given_or, value_at}
 
+-- the warning for a node that listens on all addresses
+abbrev pub all_addresses : List ℕ
+all_addresses = codes
+    "the system chooses the address from which answers leave: with several addresses, listen on one"
+
 -- the values of an argument, or no values if it is absent
 abbrev pub values_or_none : Option (List (List ℕ)) → List (List ℕ)
 values_or_none None = []

@@ -2,7 +2,7 @@
 ghost use Rattle.std.specs.Prelude.{◌≡◌, ◌⊎◌, ◌↔◌, ℕ, IsTrue, MatchOption, codes, map, option_map};
 ghost use Rattle.ndn_daemon.specs.Endpoint.{AreEndpoints, IsEndpoint, IsItself, IsLoopback, IsPort, IsUnspecified, MayBePeersOf};
 ghost use Rattle.ndn_daemon.specs.Options.{Reads, ReadsInMemory, rows_in, value_at};
-ghost use Rattle.ndn_daemon.specs.UdpOptions.{Has, IsBadValue, IsFlag, IsLocal, IsLog, IsNumber, IsSeconds, IsUdpOptions, flag_at, values_at};
+ghost use Rattle.ndn_daemon.specs.UdpOptions.{Has, IsBadValue, IsFlag, IsLocal, IsLog, IsNumber, IsSeconds, IsUdpOptions, all_addresses, flag_at, values_at};
 
 use crate::fault::Fault;
 use crate::options::{given_or, path_of, value};
@@ -51,6 +51,21 @@ pub struct UdpOptions {
 }
 
 impl UdpOptions {
+    /// Returns what the node warns of when it starts, or `None`. A node that listens on all addresses
+    /// (0.0.0.0 or ::) sends from an address that the system chooses.
+    pub fn warning(&self) -> Option<&'static str>
+        ensures { MatchOption result (¬ IsUnspecified self.now.listen)
+            (λ text. IsUnspecified self.now.listen × (text.now ≡ all_addresses)) }
+    {
+        if is_unspecified(&self.listen) {
+            Some(
+                "the system chooses the address from which answers leave: with several addresses, listen on one",
+            )
+        } else {
+            None
+        }
+    }
+
     /// Reads the options from the parsed command line.
     pub fn read(alloc: Global, found: &ArgMatches<'_>) -> Result<UdpOptions, Fault>
         ensures { ReadsInMemory (IsUdpOptions (rows_in found.now)) result }

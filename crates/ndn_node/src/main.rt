@@ -82,6 +82,10 @@ fn udp<R: AllocGlobal + Clock + Eprint + Files<File = File> + Net + Print>(
     requires { length options.now.peers.items ≤ 64 }
 {
     let (parts, files) = parts_of(rt, node)?;
+    if let Some(warning) = options.warning() {
+        // If the warning cannot be written to standard error, the node starts without it.
+        let _printed = eprintln!(rt; "warning: {warning}");
+    }
     match run_on_port(rt, parts, MachineClock::new(rt), files, options) {
         Ok(()) => Ok(0),
         Err(fault) if fault.ends_turns() => {
