@@ -182,6 +182,7 @@ IsAnswer (job.Explain asked) book text = IsExplainAnswer asked book text
 IsAnswer (job.Send asked) book text = text ≡ []
 IsAnswer (job.Get asked) book text = text ≡ []
 IsAnswer (job.Put asked) book text = text ≡ []
+IsAnswer (job.Key asked) book text = text ≡ []
 IsAnswer (job.Ask asked) book text = IsInterestAnswer asked.interest book text
 
 -- ---- errors: each error except Memory has a cause
@@ -246,4 +247,5 @@ IsRefusal (job.Explain asked) book why = IsExplainRefusal asked why
 IsRefusal (job.Send asked) book why = why ≡ fault.Memory
 IsRefusal (job.Get asked) book why = why ≡ fault.Memory
 IsRefusal (job.Put asked) book why = why ≡ fault.Memory
+IsRefusal (job.Key asked) book why = why ≡ fault.Memory
 IsRefusal (job.Ask asked) book why = IsInterestRefusal asked.interest book why

@@ -13,6 +13,8 @@ use Rattle.ndn_requests.specs.declared.fault.Failure.TheVariants.{Refused, NoSta
 use Rattle.ndn_requests.specs.Fault.{silence_text, failure_text}
 use Rattle.ndn_segments.specs.declared.fault.SegmentFault.{SegmentFault}
 use Rattle.ndn_segments.specs.declared.fault.SegmentFault.TheVariants.{OtherFile, NoSegmentNumber, NoFinalBlockId, OtherFinalBlockId, AboveLast, ContentTooLong, BeyondWindow, OtherContent, Memory as SegmentMemory}
+use Rattle.certificates.specs.declared.fault.CertificateFault.{CertificateFault}
+use Rattle.certificates.specs.declared.fault.CertificateFault.TheVariants as certificate
 use Rattle.ndn_client.specs.declared.fault.Fault.{Fault}
 use Rattle.ndn_client.specs.declared.fault.Fault.TheVariants as fault
 
@@ -49,9 +51,34 @@ segment_words BeyondWindow = codes "it is too far ahead"
 segment_words OtherContent = codes "it came before with another Content"
 segment_words SegmentMemory = codes "out of memory"
 
+abbrev pub certificate_status : CertificateFault → ℕ
+certificate_status certificate.NoBase64 = 1
+certificate_status certificate.NoData = 1
+certificate_status certificate.NoCertificateName = 1
+certificate_status certificate.NoContent = 1
+certificate_status certificate.OtherKey = 1
+certificate_status (certificate.BadPoint why) = 1
+certificate_status certificate.Memory = 3
+
+-- why a file has no certificate with a P-256 key, and what to do
+unfoldable pub certificate_words : CertificateFault → List ℕ
+certificate_words certificate.NoBase64 =
+    codes "it is not the base64 text of a certificate; give what ndnsec cert-dump prints"
+certificate_words certificate.NoData =
+    codes "it is not exactly one Data packet; give one certificate, as ndnsec cert-dump prints it"
+certificate_words certificate.NoCertificateName =
+    codes "its Data has no name that ends with /KEY/KEYID/ISSUER/VERSION; give a certificate"
+certificate_words certificate.NoContent =
+    codes "its Data has no Content; give a certificate with a public key"
+certificate_words certificate.OtherKey =
+    codes "its key is no uncompressed P-256 key with a named curve; use a P-256 key"
+certificate_words (certificate.BadPoint why) =
+    codes "its key is no point of the curve P-256; get the certificate again from its owner"
+certificate_words certificate.Memory = codes "out of memory"
+
 -- The exit status. It is 1 if a key is named without a key file, or if the key file is too large or
--- its content has a fault, if a Data is no segment of the file, or if a repository does not take a
--- Data. It is 2 if an argument is not UTF-8. It is 3 if reading, writing or
+-- its content has a fault, if a Data is no segment of the file, if a repository does not take a
+-- Data, or if a file has no certificate with a P-256 key. It is 2 if an argument is not UTF-8. It is 3 if reading, writing or
 -- sending failed, if a port could not be bound, if memory ran out, or if no answer came to the
 -- packet of `send`. It is 7 if the signature of the answer is wrong. A request that was not done,
 -- and the fault of a job, have their own exit statuses.
@@ -74,6 +101,8 @@ status_of (fault.NotSegment name why) = 1
 status_of (fault.Unanswered name) = 5
 status_of (fault.NotTaken name) = 1
 status_of (fault.NoFile path kind) = 3
+status_of (fault.NoCertificate path why) = certificate_status why
+status_of (fault.LargeCertificate path) = 1
 status_of fault.Shortened = 3
 status_of (fault.Unwritten path kind) = 3
 
@@ -105,6 +134,10 @@ text_of (fault.NotTaken name) = Some (codes "error: the repository does not take
     ++ (uri_of name ++ codes ": the rules may not allow it\n"))
 text_of (fault.NoFile path kind) = Some (codes "error: the file " ++ (string_bytes path
     ++ (codes " cannot be read: " ++ (cause_of kind ++ codes "\n"))))
+text_of (fault.NoCertificate path why) = Some (codes "error: the file " ++ (string_bytes path
+    ++ (codes " has no key to show: " ++ (certificate_words why ++ codes "\n"))))
+text_of (fault.LargeCertificate path) = Some (codes "error: the file " ++ (string_bytes path
+    ++ codes " has no key to show: a certificate has at most 18000 octets\n"))
 text_of fault.Shortened = Some (codes "error: the file became shorter while it was read\n")
 text_of (fault.Unwritten path kind) = Some (codes "error: the file " ++ (string_bytes path
     ++ (codes " cannot be written: " ++ (cause_of kind ++ codes "\n"))))

@@ -1,5 +1,6 @@
 pub mod Fault
 pub mod KeyFile
+pub mod KeyShow
 pub mod Input
 pub mod Answer
 pub mod Download

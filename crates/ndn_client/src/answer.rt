@@ -17,7 +17,7 @@ use ndn_requests::command_name;
 use std::alloc::Global;
 
 /// Returns the text to print for a job if no packet is sent, given the keys of the job's key file.
-/// For `send`, `get` and `put`, and for `explain` without a packet, the text is empty.
+/// For `send`, `get`, `put` and `key`, and for `explain` without a packet, the text is empty.
 ///
 /// Each error except `Memory` has its cause in the job or its keys. `Usage` is never returned.
 pub fn text_of(alloc: Global, job: &Job, book: &KeyBook) -> Result<Vec<u8>, ToolFault>
@@ -34,7 +34,7 @@ pub fn text_of(alloc: Global, job: &Job, book: &KeyBook) -> Result<Vec<u8>, Tool
         Job::Tag(job) => tag_text(alloc, job, book),
         Job::Show(octets) => shown_text(alloc, octets),
         Job::Explain(job) => explain_text(alloc, job, book),
-        Job::Send(_) | Job::Get(_) | Job::Put(_) => Ok(Vec::new(alloc)),
+        Job::Send(_) | Job::Get(_) | Job::Put(_) | Job::Key(_) => Ok(Vec::new(alloc)),
     }
 }
 

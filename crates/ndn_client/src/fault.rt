@@ -1,7 +1,8 @@
 //! Why the program fails: the message and the exit status.
 ghost use Rattle.std.specs.Prelude.{◌≡◌};
-ghost use Rattle.ndn_client.specs.Fault.{failure_status, segment_words};
+ghost use Rattle.ndn_client.specs.Fault.{certificate_status, certificate_words, failure_status, segment_words};
 
+use certificates::CertificateFault;
 use file_faults::{KeyMessage, cause_of};
 use key_files::KeyFault;
 use ndn_jobs::ToolFault;
@@ -76,7 +77,7 @@ pub enum Fault {
         /// The name of the Data.
         name: NameBuf,
     },
-    /// The file to store cannot be read.
+    /// The file to store, or the file with a certificate, cannot be read.
     NoFile {
         /// The path of the file.
         path: String,
@@ -85,6 +86,18 @@ pub enum Fault {
     },
     /// The file to store became shorter while it was read.
     Shortened,
+    /// The file has no certificate with a P-256 key.
+    NoCertificate {
+        /// The path of the file.
+        path: String,
+        /// Why the file has no such certificate.
+        why: CertificateFault,
+    },
+    /// The file has more octets than a file with a certificate may have.
+    LargeCertificate {
+        /// The path of the file.
+        path: String,
+    },
     /// The file cannot be written.
     Unwritten {
         /// The path of the file.
@@ -122,7 +135,8 @@ impl Fault {
             | Fault::NoKeyFile => 1,
             Fault::NotDone(failure) => failure_status(*failure),
             Fault::Forged { .. } => 7,
-            Fault::NotSegment { .. } | Fault::NotTaken { .. } => 1,
+            Fault::NoCertificate { why, .. } => certificate_status(*why),
+            Fault::NotSegment { .. } | Fault::NotTaken { .. } | Fault::LargeCertificate { .. } => 1,
             Fault::Unanswered { .. } => 5,
             Fault::Keys(KeyFault::Memory)
             | Fault::Unread { .. }
@@ -148,6 +162,49 @@ fn failure_status(failure: Failure) -> u8
         Failure::Nack => 4,
         Failure::Silent(Silence::Far | Silence::Late | Silence::Changed) => 5,
         Failure::Silent(Silence::Closed) => 6,
+    }
+}
+
+/// Returns the exit status for a file without a certificate.
+fn certificate_status(why: CertificateFault) -> u8
+    ensures { result ≡ certificate_status why }
+{
+    match why {
+        CertificateFault::NoBase64
+        | CertificateFault::NoData
+        | CertificateFault::NoCertificateName
+        | CertificateFault::NoContent
+        | CertificateFault::OtherKey
+        | CertificateFault::BadPoint(_) => 1,
+        CertificateFault::Memory => 3,
+    }
+}
+
+/// Returns why a file has no certificate with a P-256 key, and what to do, as words.
+#[tactic(auto, unfolding(crate::specs::Fault::certificate_words))]
+fn certificate_words(why: CertificateFault) -> &'static str
+    ensures { result.now ≡ certificate_words why }
+{
+    match why {
+        CertificateFault::NoBase64 => {
+            "it is not the base64 text of a certificate; give what ndnsec cert-dump prints"
+        }
+        CertificateFault::NoData => {
+            "it is not exactly one Data packet; give one certificate, as ndnsec cert-dump prints it"
+        }
+        CertificateFault::NoCertificateName => {
+            "its Data has no name that ends with /KEY/KEYID/ISSUER/VERSION; give a certificate"
+        }
+        CertificateFault::NoContent => {
+            "its Data has no Content; give a certificate with a public key"
+        }
+        CertificateFault::OtherKey => {
+            "its key is no uncompressed P-256 key with a named curve; use a P-256 key"
+        }
+        CertificateFault::BadPoint(_) => {
+            "its key is no point of the curve P-256; get the certificate again from its owner"
+        }
+        CertificateFault::Memory => "out of memory",
     }
 }
 
@@ -221,6 +278,15 @@ impl fmt::Display for Fault {
                     cause_of(*kind)
                 )
             }
+            Fault::NoCertificate { path, why } => writeln!(
+                f,
+                "error: the file {path} has no key to show: {}",
+                certificate_words(*why)
+            ),
+            Fault::LargeCertificate { path } => writeln!(
+                f,
+                "error: the file {path} has no key to show: a certificate has at most 18000 octets"
+            ),
             Fault::Shortened => f.write_str("error: the file became shorter while it was read\n"),
             Fault::Unwritten { path, kind } => {
                 writeln!(

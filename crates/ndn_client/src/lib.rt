@@ -8,6 +8,7 @@ mod fault;
 mod get;
 mod input;
 mod key_file;
+mod key_show;
 mod link;
 mod plan;
 mod put;
@@ -18,10 +19,11 @@ pub use download::{Download, stem_of};
 pub use fault::Fault;
 pub use input::{packet_in, read_input_line, read_packet_input};
 pub use key_file::{read_book, read_key_file, unread_keys};
+pub use key_show::{MAX_CERTIFICATE_FILE, read_key_lines};
 pub use ndn_explain::put_input;
 pub use ndn_jobs::{
-    AskJob, CommandJob, DataJob, ExplainJob, GetJob, InterestJob, Job, KeyChoice, LinkJob, Ports,
-    PutJob, SendJob, Stamp, TagJob, Token, ToolFault, Usage, parse_words,
+    AskJob, CommandJob, DataJob, ExplainJob, GetJob, InterestJob, Job, KeyChoice, KeyJob, LinkJob,
+    Ports, PutJob, SendJob, Stamp, TagJob, Token, ToolFault, Usage, parse_words,
 };
 pub use ndn_requests::{
     Exchange, Failure, NodeList, Outcome, Progress, Silence, View, judge, put_explained, silence_of,

@@ -3,6 +3,7 @@
 use crate::answer::{command_packet, data_sign};
 use crate::fault::Fault;
 use crate::get::unanswered;
+use crate::key_show::no_file;
 use crate::link::Link;
 use crate::running::{milliseconds, print};
 use interest_pipeline::Pipeline;
@@ -17,7 +18,7 @@ use ndn_segments::{CutFault, Cutter, USUAL_SIZE, segment_name, version_name};
 use ndn_tlv::nni_of;
 use std::alloc::Global;
 use std::fs::File;
-use std::io::{ErrorKind, Seek, SeekFrom};
+use std::io::{Seek, SeekFrom};
 use std::net::Net;
 use std::rt::Files;
 use std::time::Clock;
@@ -184,13 +185,6 @@ fn insert_of(alloc: Global, job: &PutJob) -> Result<CommandJob, Fault> {
 }
 
 /// Returns the fault that the file to store cannot be read.
-fn no_file(alloc: Global, path: &str, kind: ErrorKind) -> Fault {
-    match String::from_str(alloc, path) {
-        Ok(path) => Fault::NoFile { path, kind },
-        Err(_) => Fault::Tool(ToolFault::Memory),
-    }
-}
-
 /// Prints a reply that a command was not done, and returns the fault.
 fn not_done(rt: &impl Print, refusal: &Refusal) -> Result<(), Fault> {
     print(rt, &refusal.text)?;

@@ -6,6 +6,7 @@ use crate::fault::Fault;
 use crate::get::get;
 use crate::input::{read_input_line, read_packet_input};
 use crate::key_file::{read_key_file, unread_keys};
+use crate::key_show::show_key;
 use crate::plan::{InputForm, Plan, fault_of_silence, input_form, plan_of};
 use crate::put::put;
 use crate::source::source_of;
@@ -69,10 +70,13 @@ where
     if let Job::Put(job) = &job {
         return put(rt, job, &book);
     }
+    if let Job::Key(job) = &job {
+        return show_key(rt, job);
+    }
     run_other(rt, job, &book)
 }
 
-/// Runs a job other than `Get` and `Put`.
+/// Runs a job other than `Get`, `Put` and `Key`.
 fn run_other<R>(rt: &R, job: Job, book: &KeyBook) -> Result<(), Fault>
 where
     R: Clock + AllocGlobal + Eprint + Input + Net + Print,

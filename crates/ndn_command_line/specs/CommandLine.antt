@@ -9,7 +9,7 @@ use Rattle.clap.specs.Simple.{App, app_of, new_app, new_rule, new_shape, with_ru
 use Rattle.ndn_command_line.specs.declared.argument.Argument.{Argument}
 use Rattle.ndn_command_line.specs.declared.argument.Argument.TheVariants.{Positional, MaybePositional, Optional, Required, Flag}
 use Rattle.ndn_command_line.specs.declared.subcommand.Subcommand.{Subcommand}
-use Rattle.ndn_command_line.specs.declared.subcommand.Subcommand.TheVariants.{Interest, Data, Command as AnyCommand, Route, Strategy, Cache, Repository, Tag, Show, Explain, Send, Peek, Get, Put}
+use Rattle.ndn_command_line.specs.declared.subcommand.Subcommand.TheVariants.{Interest, Data, Command as AnyCommand, Route, Strategy, Cache, Repository, Tag, Show, Explain, Send, Peek, Get, Put, Key}
 
 -- ---- arguments
 
@@ -212,6 +212,12 @@ put_app = a_subcommand (codes "put") (
     ∷ an_option (codes "key")
     ∷ [])
 
+unfoldable pub key_app : App
+key_app = a_subcommand (codes "key") (
+    a_positional (codes "VERB")
+    ∷ a_positional (codes "FILE")
+    ∷ [])
+
 -- ---- the subcommands by name
 
 abbrev pub app_for : Subcommand → App
@@ -229,6 +235,7 @@ app_for Send = send_app
 app_for Peek = peek_app
 app_for Get = get_app
 app_for Put = put_app
+app_for Key = key_app
 
 abbrev pub subcommand_named : List ℕ → Option Subcommand
 subcommand_named word =
@@ -245,8 +252,9 @@ subcommand_named word =
     if bytes_eq word (codes "send") then Some Send else (
     if bytes_eq word (codes "peek") then Some Peek else (
     if bytes_eq word (codes "get") then Some Get else (
-    if bytes_eq word (codes "put") then Some Put else
-    None)))))))))))))
+    if bytes_eq word (codes "put") then Some Put else (
+    if bytes_eq word (codes "key") then Some Key else
+    None))))))))))))))
 
 -- The command of the program. It has a version and requires a subcommand. If there are no
 -- arguments, the help is shown. No subcommand is named `help`.
@@ -263,7 +271,7 @@ tool = record {
       interest_app.top ∷ data_app.top ∷ command_app.top ∷ route_app.top ∷ strategy_app.top
       ∷ cache_app.top ∷ repository_app.top ∷ tag_app.top ∷ show_app.top
       ∷ explain_app.top ∷ send_app.top ∷ peek_app.top ∷ get_app.top
-      ∷ put_app.top ∷ [];
+      ∷ put_app.top ∷ key_app.top ∷ [];
 }
 
 -- ---- the commands that are built

@@ -34,6 +34,7 @@ pub fn tool_command<'a>(alloc: Global) -> Result<Command<'a>, AllocError>
         Subcommand::Peek,
         Subcommand::Get,
         Subcommand::Put,
+        Subcommand::Key,
     ];
     with_subcommands(alloc, command, &subcommands)
 }

@@ -22,7 +22,8 @@ Example: write a key file, sign an Interest with its key, and show the fields of
 Exit status:
   0  the command line was carried out
   1  a key file has a fault, or the key that --key names is missing; a packet would be too long, or
-     would have a name that is not allowed; the octets given to show or explain are not a packet
+     would have a name that is not allowed; the octets given to show or explain are not a packet;
+     the file given to key show has no certificate with a P-256 key
   2  the command line is wrong; for explain, a line of standard input is too long; for send,
      standard input is too long or not hexadecimal
   3  reading, writing or sending failed, the subcommand send got no answer, or memory ran out
@@ -252,6 +253,21 @@ time, and 6 if no program listens on the port.
 
 Example: store the file log as /data/log in the repository /repo of the node at port 6363.
   $ ndn_tool put log /data/log --repo /repo --to 6363 --keys ops.keys --key /ops/KEY/1";
+
+pub const KEY_COMMAND: &str =
+    "FILE has a certificate (NDN Certificate Format 2.0): the octets of its Data, or their base64 text as
+ndnsec cert-dump writes it. Two lines of a key file are printed, since a packet may name its key by
+either name: the name of the key and the name of the certificate, each with the word ecdsa-p256 and
+the public key in hexadecimal. The key must be a P-256 key, with the curve by its name and an
+uncompressed point.
+
+The signature of the certificate is not checked. Add the lines to a key file only if you trust that
+the key belongs to that name.
+
+If FILE has no such certificate, the reason is printed, and the exit status is 1.
+
+Example: add the key of the certificate in the file alice.cert to the key file ops.keys.
+  $ ndn_tool key show alice.cert >> ops.keys";
 
 pub const TIME: &str = "The time of the signature, in milliseconds since 1970";
 

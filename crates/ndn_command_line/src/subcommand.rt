@@ -2,7 +2,7 @@
 
 ghost use Rattle.std.specs.Prelude.{map, IfOk};
 ghost use Rattle.clap.specs.Simple.{App};
-ghost use Rattle.ndn_command_line.specs.CommandLine.{HasApp, rule_for, a_subcommand, app_for, with_subcommands, interest_app, data_app, command_app, route_app, strategy_app, cache_app, repository_app, tag_app, show_app, explain_app, send_app, peek_app, get_app, put_app, stamped};
+ghost use Rattle.ndn_command_line.specs.CommandLine.{HasApp, rule_for, a_subcommand, app_for, with_subcommands, interest_app, data_app, command_app, route_app, strategy_app, cache_app, repository_app, tag_app, show_app, explain_app, send_app, peek_app, get_app, put_app, key_app, stamped};
 
 use crate::argument::{Argument, with_arguments};
 use crate::help;
@@ -26,6 +26,7 @@ pub enum Subcommand {
     Peek,
     Get,
     Put,
+    Key,
 }
 
 impl Subcommand {
@@ -51,6 +52,7 @@ impl Subcommand {
             "peek" => Some(Subcommand::Peek),
             "get" => Some(Subcommand::Get),
             "put" => Some(Subcommand::Put),
+            "key" => Some(Subcommand::Key),
             _ => None,
         }
     }
@@ -74,6 +76,7 @@ impl Subcommand {
             Subcommand::Peek => peek_command(alloc),
             Subcommand::Get => get_command(alloc),
             Subcommand::Put => put_command(alloc),
+            Subcommand::Key => key_command(alloc),
         }
     }
 }
@@ -334,6 +337,17 @@ fn put_command<'a>(alloc: Global) -> Result<Command<'a>, AllocError>
     ];
     let about = "Stores a file in a repository, in segments";
     described(alloc, "put", about, help::PUT, &arguments)
+}
+
+fn key_command<'a>(alloc: Global) -> Result<Command<'a>, AllocError>
+    ensures { IfOk result (HasApp key_app) }
+{
+    let arguments = [
+        Argument::Positional("VERB", "show"),
+        Argument::Positional("FILE", "The file of the certificate"),
+    ];
+    let about = "Shows the public key of a certificate as lines of a key file";
+    described(alloc, "key", about, help::KEY_COMMAND, &arguments)
 }
 
 /// Adds the options of a stamp to a command: time, Nonce, sequence number, key, ports and timeout.

@@ -10,8 +10,9 @@ use Rattle.ndn_jobs.specs.declared.job.SendJob.{SendJob}
 use Rattle.ndn_jobs.specs.declared.job.AskJob.{AskJob}
 use Rattle.ndn_jobs.specs.declared.job.GetJob.{GetJob}
 use Rattle.ndn_jobs.specs.declared.job.PutJob.{PutJob}
+use Rattle.ndn_jobs.specs.declared.job.KeyJob.{KeyJob}
 use Rattle.ndn_jobs.specs.declared.job.Job.{Job}
-use Rattle.ndn_jobs.specs.declared.job.Job.TheVariants.{Help, Interest, Data, Command, Tag, Show, Explain, Send, Ask, Get, Put}
+use Rattle.ndn_jobs.specs.declared.job.Job.TheVariants.{Help, Interest, Data, Command, Tag, Show, Explain, Send, Ask, Get, Put, Key}
 use Rattle.ndn_command_line.specs.declared.subcommand.Subcommand.TheVariants as sub
 use Rattle.ndn_jobs.specs.Options.{IsLinkJob, IsDataJob, IsCommandJob, IsTagJob, IsShowJob, IsExplainJob, IsSendJob}
 use Rattle.ndn_jobs.specs.ShortForm.{IsShortJob}
@@ -19,6 +20,7 @@ use Rattle.ndn_jobs.specs.RepositoryForm.{IsRepositoryJob}
 use Rattle.ndn_jobs.specs.Ask.{is_list, IsListJob, IsPeekJob}
 use Rattle.ndn_jobs.specs.Get.{IsGetJob}
 use Rattle.ndn_jobs.specs.Put.{IsPutJob}
+use Rattle.ndn_jobs.specs.Key.{IsKeyJob}
 use Rattle.ndn_jobs.specs.Command.{IsJobFor, IsListedJob}
 
 module _ (now : ℕ) (seed name : List ℕ) (rows : List Row) where
@@ -34,6 +36,7 @@ module _ (now : ℕ) (seed name : List ℕ) (rows : List Row) where
   an_interest (Ask job) h = absurd h
   an_interest (Get job) h = absurd h
   an_interest (Put job) h = absurd h
+  an_interest (Key job) h = absurd h
 
   pub a_data : (job : Job) → IsJobFor sub.Data now seed name rows job → (x : DataJob) × IsDataJob rows x
   a_data (Help error) h = absurd h
@@ -47,6 +50,7 @@ module _ (now : ℕ) (seed name : List ℕ) (rows : List Row) where
   a_data (Ask job) h = absurd h
   a_data (Get job) h = absurd h
   a_data (Put job) h = absurd h
+  a_data (Key job) h = absurd h
 
   pub a_command : (job : Job) → IsJobFor sub.Command now seed name rows job → (x : CommandJob) × IsCommandJob rows x
   a_command (Help error) h = absurd h
@@ -60,6 +64,7 @@ module _ (now : ℕ) (seed name : List ℕ) (rows : List Row) where
   a_command (Ask job) h = absurd h
   a_command (Get job) h = absurd h
   a_command (Put job) h = absurd h
+  a_command (Key job) h = absurd h
 
   pub a_cache : (job : Job) → IsJobFor sub.Cache now seed name rows job → (x : CommandJob) × IsShortJob now seed name rows x
   a_cache (Help error) h = absurd h
@@ -73,6 +78,7 @@ module _ (now : ℕ) (seed name : List ℕ) (rows : List Row) where
   a_cache (Ask job) h = absurd h
   a_cache (Get job) h = absurd h
   a_cache (Put job) h = absurd h
+  a_cache (Key job) h = absurd h
 
   pub a_repository : (job : Job) → IsJobFor sub.Repository now seed name rows job → (x : CommandJob) × IsRepositoryJob now seed rows x
   a_repository (Help error) h = absurd h
@@ -86,6 +92,7 @@ module _ (now : ℕ) (seed name : List ℕ) (rows : List Row) where
   a_repository (Ask job) h = absurd h
   a_repository (Get job) h = absurd h
   a_repository (Put job) h = absurd h
+  a_repository (Key job) h = absurd h
 
   pub a_tag : (job : Job) → IsJobFor sub.Tag now seed name rows job → (x : TagJob) × IsTagJob rows x
   a_tag (Help error) h = absurd h
@@ -99,6 +106,7 @@ module _ (now : ℕ) (seed name : List ℕ) (rows : List Row) where
   a_tag (Ask job) h = absurd h
   a_tag (Get job) h = absurd h
   a_tag (Put job) h = absurd h
+  a_tag (Key job) h = absurd h
 
   pub a_show : (job : Job) → IsJobFor sub.Show now seed name rows job → (x : Vec ℕ Global) × IsShowJob rows x
   a_show (Help error) h = absurd h
@@ -112,6 +120,7 @@ module _ (now : ℕ) (seed name : List ℕ) (rows : List Row) where
   a_show (Ask job) h = absurd h
   a_show (Get job) h = absurd h
   a_show (Put job) h = absurd h
+  a_show (Key job) h = absurd h
 
   pub an_explanation : (job : Job) → IsJobFor sub.Explain now seed name rows job → (x : ExplainJob) × IsExplainJob rows x
   an_explanation (Help error) h = absurd h
@@ -125,6 +134,7 @@ module _ (now : ℕ) (seed name : List ℕ) (rows : List Row) where
   an_explanation (Ask job) h = absurd h
   an_explanation (Get job) h = absurd h
   an_explanation (Put job) h = absurd h
+  an_explanation (Key job) h = absurd h
 
   pub a_send : (job : Job) → IsJobFor sub.Send now seed name rows job → (x : SendJob) × IsSendJob rows x
   a_send (Help error) h = absurd h
@@ -138,6 +148,7 @@ module _ (now : ℕ) (seed name : List ℕ) (rows : List Row) where
   a_send (Ask job) h = absurd h
   a_send (Get job) h = absurd h
   a_send (Put job) h = absurd h
+  a_send (Key job) h = absurd h
 
   pub a_peek : (job : Job) → IsJobFor sub.Peek now seed name rows job → (x : AskJob) × IsPeekJob now seed rows x
   a_peek (Help error) h = absurd h
@@ -151,6 +162,7 @@ module _ (now : ℕ) (seed name : List ℕ) (rows : List Row) where
   a_peek (Ask job) h = (job, h)
   a_peek (Get job) h = absurd h
   a_peek (Put job) h = absurd h
+  a_peek (Key job) h = absurd h
 
   pub a_file : (job : Job) → IsJobFor sub.Get now seed name rows job → (x : GetJob) × IsGetJob now seed rows x
   a_file (Help error) h = absurd h
@@ -164,6 +176,7 @@ module _ (now : ℕ) (seed name : List ℕ) (rows : List Row) where
   a_file (Ask job) h = absurd h
   a_file (Get job) h = (job, h)
   a_file (Put job) h = absurd h
+  a_file (Key job) h = absurd h
 
   pub a_stored_file : (job : Job) → IsJobFor sub.Put now seed name rows job → (x : PutJob) × IsPutJob now seed rows x
   a_stored_file (Help error) h = absurd h
@@ -177,6 +190,21 @@ module _ (now : ℕ) (seed name : List ℕ) (rows : List Row) where
   a_stored_file (Ask job) h = absurd h
   a_stored_file (Get job) h = absurd h
   a_stored_file (Put job) h = (job, h)
+  a_stored_file (Key job) h = absurd h
+
+  pub a_shown_key : (job : Job) → IsJobFor sub.Key now seed name rows job → (x : KeyJob) × IsKeyJob rows x
+  a_shown_key (Help error) h = absurd h
+  a_shown_key (Interest job) h = absurd h
+  a_shown_key (Data job) h = absurd h
+  a_shown_key (Command job) h = absurd h
+  a_shown_key (Tag job) h = absurd h
+  a_shown_key (Show octets) h = absurd h
+  a_shown_key (Explain job) h = absurd h
+  a_shown_key (Send job) h = absurd h
+  a_shown_key (Ask job) h = absurd h
+  a_shown_key (Get job) h = absurd h
+  a_shown_key (Put job) h = absurd h
+  a_shown_key (Key job) h = (job, h)
 
   -- If the verb is `list`, the job of `route` or `strategy` is a request for a list. If the verb is
   -- not `list`, the job is a command that is given by its short form.
@@ -193,6 +221,7 @@ module _ (now : ℕ) (seed name : List ℕ) (rows : List Row) where
   a_list said (Ask job) h = (job, h.1)
   a_list said (Get job) h = absurd h
   a_list said (Put job) h = absurd h
+  a_list said (Key job) h = absurd h
 
   pub a_short : is_list rows ≡ false → (job : Job) → IsListedJob now seed name rows job → (x : CommandJob) × IsShortJob now seed name rows x
   a_short other (Help error) h = absurd h
@@ -206,3 +235,4 @@ module _ (now : ℕ) (seed name : List ℕ) (rows : List Row) where
   a_short other (Ask job) h = let apart = h.0 in absurd cc
   a_short other (Get job) h = absurd h
   a_short other (Put job) h = absurd h
+  a_short other (Key job) h = absurd h

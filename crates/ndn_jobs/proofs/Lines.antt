@@ -10,7 +10,7 @@ use Rattle.clap.specs.Simple.{App, HasMatchesOf, subcommand_of, subcommand_rows_
 use Rattle.clap.specs.Faults.{fault_of, is_simple_and_free}
 use Rattle.clap.specs.Kinds.{HasKind, IsAmong}
 use Rattle.ndn_jobs.specs.declared.job.Job.{Job}
-use Rattle.ndn_jobs.specs.declared.job.Job.TheVariants.{Help, Interest, Data, Command, Tag, Show, Explain, Send, Ask, Get, Put}
+use Rattle.ndn_jobs.specs.declared.job.Job.TheVariants.{Help, Interest, Data, Command, Tag, Show, Explain, Send, Ask, Get, Put, Key}
 use Rattle.ndn_command_line.specs.declared.subcommand.Subcommand.{Subcommand}
 use Rattle.ndn_command_line.specs.declared.subcommand.Subcommand.TheVariants as sub
 use Rattle.ndn_jobs.specs.declared.fault.Usage.TheVariants.{CommandLine, BadValue}
@@ -81,6 +81,7 @@ no_help_of now seed name rows error (Some sub.Send) h = h
 no_help_of now seed name rows error (Some sub.Peek) h = h
 no_help_of now seed name rows error (Some sub.Get) h = h
 no_help_of now seed name rows error (Some sub.Put) h = h
+no_help_of now seed name rows error (Some sub.Key) h = h
 
 no_help : (now : ℕ) (seed : List ℕ) (used : Option (List ℕ × List Row)) (error : Error) → IsJob now seed used (Help error) → ⊥
 no_help now seed None error h = h
@@ -98,6 +99,7 @@ asked now random arguments none (Ok (Send job)) h = (none, h)
 asked now random arguments none (Ok (Ask job)) h = (none, h)
 asked now random arguments none (Ok (Get job)) h = (none, h)
 asked now random arguments none (Ok (Put job)) h = (none, h)
+asked now random arguments none (Ok (Key job)) h = (none, h)
 asked now random arguments none (Err (fault.Usage (CommandLine error))) h = absurd h
 asked now random arguments none (Err (fault.Usage (BadValue place wanted))) h = (none, h)
 asked now random arguments none (Err fault.NoKey) h = h

@@ -9,7 +9,7 @@ use Rattle.clap.specs.declared.error.Error.{Error}
 use Rattle.clap.specs.declared.error.kind.ErrorKind.{ErrorKind}
 use Rattle.clap.specs.declared.error.kind.ErrorKind.TheVariants.{DisplayHelp, DisplayVersion, OutOfMemory}
 use Rattle.ndn_jobs.specs.declared.job.Job.{Job}
-use Rattle.ndn_jobs.specs.declared.job.Job.TheVariants.{Help, Interest, Data, Command, Tag, Show, Explain, Send, Ask, Get, Put}
+use Rattle.ndn_jobs.specs.declared.job.Job.TheVariants.{Help, Interest, Data, Command, Tag, Show, Explain, Send, Ask, Get, Put, Key}
 use Rattle.ndn_command_line.specs.declared.subcommand.Subcommand.{Subcommand}
 use Rattle.ndn_command_line.specs.declared.subcommand.Subcommand.TheVariants as sub
 use Rattle.ndn_jobs.specs.declared.fault.Usage.{Usage as WrongUsage}
@@ -22,6 +22,7 @@ use Rattle.ndn_jobs.specs.RepositoryForm.{IsRepositoryJob}
 use Rattle.ndn_jobs.specs.Ask.{is_list, IsListJob, IsPeekJob}
 use Rattle.ndn_jobs.specs.Get.{IsGetJob}
 use Rattle.ndn_jobs.specs.Put.{IsPutJob}
+use Rattle.ndn_jobs.specs.Key.{IsKeyJob}
 use Rattle.ndn_jobs.specs.Nonce.{seed_of}
 use Rattle.ndn_command_line.specs.CommandLine.{subcommand_named, tool}
 
@@ -63,6 +64,7 @@ IsJobFor sub.Send now seed name rows (Send job) = IsSendJob rows job
 IsJobFor sub.Peek now seed name rows (Ask job) = IsPeekJob now seed rows job
 IsJobFor sub.Get now seed name rows (Get job) = IsGetJob now seed rows job
 IsJobFor sub.Put now seed name rows (Put job) = IsPutJob now seed rows job
+IsJobFor sub.Key now seed name rows (Key job) = IsKeyJob rows job
 IsJobFor subcommand now seed name rows job = ⊥
 
 abbrev pub IsFoundJob : Option Subcommand → ℕ → List ℕ → List ℕ → List Row → Job → Type 0

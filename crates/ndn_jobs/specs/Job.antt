@@ -3,7 +3,7 @@ use Rattle.std.specs.Prelude.{ℕ, ◌-◌, List, Option, None, Some, string_byt
 use Rattle.std.specs.Option.{option_map}
 use Rattle.ndn_jobs.specs.declared.job.AskJob.{AskJob}
 use Rattle.ndn_jobs.specs.declared.job.Job.{Job}
-use Rattle.ndn_jobs.specs.declared.job.Job.TheVariants.{Help, Interest, Data, Command, Tag, Show, Explain, Send, Ask, Get, Put}
+use Rattle.ndn_jobs.specs.declared.job.Job.TheVariants.{Help, Interest, Data, Command, Tag, Show, Explain, Send, Ask, Get, Put, Key}
 use Rattle.ndn_jobs.specs.Nonce.{nonce_after}
 
 -- the path of the key file that a job names, or None if the job names no key file
@@ -19,6 +19,7 @@ key_file_of (Send job) = None
 key_file_of (Ask job) = option_map string_bytes job.keys
 key_file_of (Get job) = option_map string_bytes job.keys
 key_file_of (Put job) = option_map string_bytes job.key.keys
+key_file_of (Key job) = None
 
 -- how often the job sends its Interest again if no answer comes in time
 abbrev pub retries_of : Job → ℕ

@@ -9,5 +9,6 @@ pub mod Job
 pub mod Fault
 pub mod Get
 pub mod Put
+pub mod Key
 pub mod Command
 pub use Rattle.ndn_command_line.specs.CommandLine

@@ -7,7 +7,8 @@ ghost use Rattle.ndn_jobs.specs.Command.{reading_of, IsJob, IsJobFor, IsListedJo
 
 use crate::fault::{ToolFault, Usage};
 use crate::job::{
-    AskJob, CommandJob, DataJob, ExplainJob, GetJob, Job, LinkJob, PutJob, SendJob, TagJob, is_list,
+    AskJob, CommandJob, DataJob, ExplainJob, GetJob, Job, KeyJob, LinkJob, PutJob, SendJob, TagJob,
+    is_list,
 };
 use crate::nonce::seed_of;
 use crate::options::required_octets;
@@ -128,6 +129,7 @@ fn job_for(
         Subcommand::Peek => Ok(Job::Ask(AskJob::read_peek(alloc, options, now, seed)?)),
         Subcommand::Get => Ok(Job::Get(GetJob::read(alloc, options, now, seed)?)),
         Subcommand::Put => Ok(Job::Put(PutJob::read(alloc, options, now, seed)?)),
+        Subcommand::Key => Ok(Job::Key(KeyJob::read(alloc, options)?)),
     }
 }
 

@@ -7,6 +7,7 @@ ghost use Rattle.ndn_jobs.specs.ShortForm.{AreShortParameters};
 ghost use Rattle.ndn_jobs.specs.RepositoryForm.{AreRepositoryParameters};
 ghost use Rattle.ndn_jobs.specs.Ask.{is_alone, is_list, lacks, list_of, view_of};
 ghost use Rattle.ndn_jobs.specs.Job.{asked_again};
+ghost use Rattle.ndn_jobs.specs.Key.{is_show};
 
 use crate::fault::{ToolFault, refusal};
 use crate::nonce::{nonce_after, nonce_or};
@@ -50,6 +51,8 @@ pub enum Job {
     Get(GetJob),
     /// Store a file in a repository.
     Put(PutJob),
+    /// Show the key of a certificate.
+    Key(KeyJob),
 }
 
 /// Where a packet is sent, and the port from which it is sent.
@@ -232,6 +235,13 @@ pub struct PutJob {
     pub nonce: [u8; 4],
 }
 
+/// A certificate whose key is shown.
+#[derive(Drop)]
+pub struct KeyJob {
+    /// The path of the file with the certificate.
+    pub file: String,
+}
+
 impl Job {
     ghost use Rattle.std.specs.Prelude.{◌≡◌, option_map};
     ghost use Rattle.ndn_jobs.specs.Job.{key_file_of, retried, retries_of};
@@ -249,7 +259,7 @@ impl Job {
             Job::Ask(job) => path_in(&job.keys),
             Job::Get(job) => path_in(&job.keys),
             Job::Put(job) => job.key.path(),
-            Job::Help(_) | Job::Show(_) | Job::Send(_) => None,
+            Job::Help(_) | Job::Show(_) | Job::Send(_) | Job::Key(_) => None,
         }
     }
 
@@ -788,6 +798,34 @@ impl PutJob {
             time: now,
             nonce: nonce_or(alloc, None, now, seed)?,
         })
+    }
+}
+
+impl KeyJob {
+    ghost use Rattle.ndn_jobs.specs.Value.{ReadsInMemory};
+    ghost use Rattle.ndn_jobs.specs.Options.{rows_in};
+    ghost use Rattle.ndn_jobs.specs.Key.{IsKeyJob};
+
+    /// Returns the file that the options of the subcommand `key` give. The verb must be `show`.
+    pub fn read(alloc: Global, options: &ArgMatches<'_>) -> Result<KeyJob, ToolFault>
+        ensures { ReadsInMemory (IsKeyJob (rows_in options.now)) result }
+    {
+        if !is_show(options) {
+            return Err(refusal("VERB", "show"));
+        }
+        Ok(KeyJob {
+            file: options::required_path(alloc, options, "FILE")?,
+        })
+    }
+}
+
+/// Returns whether the verb in the options is `show`.
+fn is_show(options: &ArgMatches<'_>) -> bool
+    ensures { result ≡ is_show (rows_in options.now) }
+{
+    match options::value(options, "VERB") {
+        None => false,
+        Some(verb) => verb == "show",
     }
 }
 

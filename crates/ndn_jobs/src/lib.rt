@@ -14,8 +14,8 @@ mod value;
 pub use command::parse_words;
 pub use fault::{ToolFault, Usage, refusal};
 pub use job::{
-    AskJob, CommandJob, DataJob, ExplainJob, GetJob, InterestJob, Job, KeyChoice, LinkJob, Ports,
-    PutJob, SendJob, Stamp, TagJob,
+    AskJob, CommandJob, DataJob, ExplainJob, GetJob, InterestJob, Job, KeyChoice, KeyJob, LinkJob,
+    Ports, PutJob, SendJob, Stamp, TagJob,
 };
 pub use nonce::nonce_after;
 pub use token::{Token, token_octets};

@@ -1,7 +1,7 @@
 use Rattle.std.proofs.lemmas.Result.{err_from_is_err_and}
 use Rattle.ndn_jobs.specs.Options.{rows_in}
 use Rattle.ndn_jobs.proofs.Spelling.{refused_part}
-use Rattle.ndn_jobs.proofs.Jobs.{an_interest, a_data, a_command, a_cache, a_peek, a_repository, a_tag, a_show, an_explanation, a_send, a_file, a_stored_file}
+use Rattle.ndn_jobs.proofs.Jobs.{an_interest, a_data, a_command, a_cache, a_peek, a_repository, a_tag, a_show, an_explanation, a_send, a_file, a_stored_file, a_shown_key}
 use Rattle.ndn_jobs.proofs.command.job_for.Goals as goal
 
 pub returns-in_err-read-in-Interest : goal.returns-in_err-read-in-Interest
@@ -63,3 +63,8 @@ pub returns-in_err-read-in-Put : goal.returns-in_err-read-in-Put
 returns-in_err-read-in-Put c =
     let p = err_from_is_err_and c.from_residual-in_err-read-in-Put.result c.from_residual-in_err-read-in-Put.ensures.1 in
     rw (p.1, p.2, c.in-Put.is) (refused_part _ _ (a_stored_file c.args.now c.args.seed.now c.args.name.now _) c.in_err-read-in-Put.field-0.0 c.in_err-read-in-Put.ensures)
+
+pub returns-in_err-read-in-Key : goal.returns-in_err-read-in-Key
+returns-in_err-read-in-Key c =
+    let p = err_from_is_err_and c.from_residual-in_err-read-in-Key.result c.from_residual-in_err-read-in-Key.ensures.1 in
+    rw (p.1, p.2, c.in-Key.is) (refused_part _ _ (a_shown_key c.args.now c.args.seed.now c.args.name.now _) c.in_err-read-in-Key.field-0.0 c.in_err-read-in-Key.ensures)

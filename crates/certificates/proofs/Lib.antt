@@ -1,0 +1,3 @@
+mod KeyInfos
+mod OneData
+mod OneCertificate
