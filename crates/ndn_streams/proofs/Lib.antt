@@ -3,3 +3,4 @@ pub mod Packets
 pub mod Streams
 pub mod Calls
 pub mod Queues
+pub mod PacketStreams

@@ -4,3 +4,4 @@ pub mod Stream
 pub mod Cutting
 pub mod Found
 pub mod Queue
+pub mod PacketStream

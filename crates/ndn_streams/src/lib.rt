@@ -6,6 +6,7 @@ mod buffer;
 mod cutter;
 mod fault;
 mod law;
+mod packet_stream;
 mod queue;
 mod size;
 
@@ -15,5 +16,6 @@ pub use law::{
     any_cut_gives_the_same_packets, faults_are_told_at_once, only_whole_packets_are_written,
     streams_have_one_reading,
 };
+pub use packet_stream::{INBOX, PacketStream};
 pub use queue::Queue;
 pub use size::MAX_FRAME;

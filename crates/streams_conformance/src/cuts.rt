@@ -1,6 +1,7 @@
 //! How streams are cut into packets.
 
 use crate::rows::check_rows;
+use crate::words::{end_word, put_packet, put_word};
 use ndn_streams::{Cutter, StreamFault};
 use ndn_tlv::put_element;
 use std::alloc::Global;
@@ -49,34 +50,6 @@ fd000500 -> type
 05006400 / 05fd0001 0500 -> 0500 6400 . shortest
 ";
 
-/// Appends a word, after a space if another word came before.
-fn put_word(text: &mut String, word: &str) -> Option<()> {
-    if !text.is_empty() {
-        text.push(' ').ok()?;
-    }
-    text.push_str(word).ok()
-}
-
-fn put_packet(alloc: Global, text: &mut String, packet: &[u8]) -> Option<()> {
-    if packet.len() <= 6 {
-        return put_word(text, &hex::encode(alloc, packet).ok()?);
-    }
-    put_word(text, &hex::encode(alloc, packet.get(..4)?).ok()?)?;
-    let size = packet.len();
-    write!(text, "..{size}").ok()
-}
-
-/// Returns what a piece ends with.
-fn end_of(cutter: &Cutter, fault: Option<StreamFault>) -> &'static str {
-    match fault {
-        Some(StreamFault::UnknownType) => "type",
-        Some(StreamFault::NotShortest) => "shortest",
-        Some(StreamFault::TooLong) => "long",
-        None if cutter.is_between_packets() => ".",
-        None => "~",
-    }
-}
-
 /// Appends what a piece of a stream gives.
 fn put_piece(alloc: Global, cutter: &mut Cutter, piece: &[u8], text: &mut String) -> Option<()> {
     let mut left = piece;
@@ -86,8 +59,8 @@ fn put_piece(alloc: Global, cutter: &mut Cutter, piece: &[u8], text: &mut String
                 put_packet(alloc, text, packet)?;
                 left = rest;
             }
-            Ok(None) => return put_word(text, end_of(cutter, None)),
-            Err(fault) => return put_word(text, end_of(cutter, Some(fault))),
+            Ok(None) => return put_word(text, end_word(None, cutter.is_between_packets())),
+            Err(fault) => return put_word(text, end_word(Some(fault), false)),
         }
     }
     None
@@ -156,7 +129,7 @@ fn is_cut_everywhere(alloc: Global) -> Option<bool> {
         for octet in stream.iter() {
             put_octet(alloc, &mut cutter, *octet, &mut text)?;
         }
-        put_word(&mut text, end_of(&cutter, None))?;
+        put_word(&mut text, end_word(None, cutter.is_between_packets()))?;
         if text.as_str() != THREE {
             return Some(false);
         }

@@ -4,6 +4,10 @@
 #[cfg(test)]
 mod cuts;
 #[cfg(test)]
+mod packet_stream;
+#[cfg(test)]
 mod queues;
 #[cfg(test)]
 mod rows;
+#[cfg(test)]
+mod words;

@@ -1,6 +1,7 @@
 //! What queues take, drop and hand out.
 
 use crate::rows::check_rows;
+use crate::words::put_word;
 use ndn_streams::Queue;
 use std::alloc::Global;
 use test_support::octets;
@@ -24,13 +25,6 @@ const CALLS: &str = "
 3 p010203 w2 p0405 w2 p0607 w2 p0809 f w3 p0a0b0c f d -> + + + + 070809 + 0a0b0c 0
 3 p010203 w1 p04 w1 p05 w1 p06 w1 p07 w1 p08 w1 f d -> + + + + + + 0708 0
 ";
-
-fn put_word(text: &mut String, word: &str) -> Option<()> {
-    if !text.is_empty() {
-        text.push(' ').ok()?;
-    }
-    text.push_str(word).ok()
-}
 
 /// Removes the octets that were written, or returns `None` if fewer wait.
 fn write_some(queue: &mut Queue, count: usize) -> Option<()> {
