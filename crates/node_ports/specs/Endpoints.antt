@@ -1,14 +1,9 @@
 -- Endpoints of datagrams: an IPv4 or IPv6 address with a port. An endpoint with an IPv6 address
 -- also has a flow label and a scope. The scope is the number of the link of a link-local address.
-use Rattle.std.specs.Prelude.{◌≡◌, ℕ, ◌∷◌, [], Bool, List, length, slice_get, Some}
+use Rattle.std.specs.Prelude.{◌≡◌, ℕ, ◌∷◌, [], List, length, slice_get, Some}
 use Rattle.std.specs.Net.Addr.{IsV4And, ipv4_octets}
 use Rattle.std.specs.Net.Socket.{socket_ip, socket_port}
 use Rattle.std.specs.declared.net.socket_addr.SocketAddr.{SocketAddr}
-use Rattle.std.specs.contracts.net.socket_addr.SocketAddrPartialEq.TheImpl as socket
-
--- whether the endpoints `known` and `endpoint` are equal, as the operator `==` decides
-abbrev pub is_at : SocketAddr → SocketAddr → Bool
-is_at endpoint known = (socket.ghosts).eq known endpoint
 
 -- the endpoint is this port of 127.0.0.1
 abbrev pub IsLocalhostAt : ℕ → SocketAddr → Type 0

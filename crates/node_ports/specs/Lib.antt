@@ -7,6 +7,4 @@ pub mod Laws
 pub mod Renewal
 pub mod Serving
 pub mod Endpoints
-pub mod Clients
-pub mod KnownEndpoints
 pub mod Udp

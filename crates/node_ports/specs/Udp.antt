@@ -1,18 +1,18 @@
 -- The state of UDP ports and the arrivals that they return. The behavior of a socket is not
 -- specified.
-use Rattle.std.specs.Prelude.{◌≡◌, ◌≢◌, ℕ, ◌+◌, ◌<◌, ◌≤◌, ◌==◌, ◌⊎◌, Bool, true, List, [], length, position, take, Option, None, Some, nat_le, if◌then◌else◌}
+use Rattle.std.specs.Prelude.{◌≡◌, ◌≢◌, ℕ, ◌+◌, ◌<◌, ◌≤◌, ◌==◌, ◌⊎◌, Bool, true, List, [], length, take, Option, None, Some, nat_le, if◌then◌else◌}
 use Rattle.std.specs.declared.net.socket_addr.SocketAddr.{SocketAddr}
 use Rattle.forwarder.specs.declared.event.Scope.{Scope}
 use Rattle.forwarder.specs.declared.event.Scope.TheVariants.{Local, Far}
 use Rattle.node_ports.specs.declared.ports.TheConstants.{FRAME_ROOM}
 use Rattle.forwarder.specs.declared.event.Event.TheVariants.{Packet, FaceUp, FaceDown, Tick, NewRules}
 use Rattle.node_ports.specs.Ports.{Arrival}
-use Rattle.node_ports.specs.declared.known_endpoints.KnownEndpoints.{KnownEndpoints}
-use Rattle.node_ports.specs.declared.known_endpoints.Met.TheVariants.{Face, Opening, Closing}
-use Rattle.node_ports.specs.declared.clients.Client.{Client}
-use Rattle.node_ports.specs.Endpoints.{is_at}
-use Rattle.node_ports.specs.Clients.{MayHear}
-use Rattle.node_ports.specs.KnownEndpoints.{Meets, with_clients}
+use Rattle.face_table.specs.declared.clients.Client.{Client}
+use Rattle.face_table.specs.declared.link.Link.TheVariants.{Udp}
+use Rattle.face_table.specs.declared.table.FaceTable.{FaceTable}
+use Rattle.face_table.specs.declared.table.Met.TheVariants.{Face, Opening, Closing}
+use Rattle.face_table.specs.Clients.{MayHear}
+use Rattle.face_table.specs.Table.{Meets, place_among, with_clients}
 use Rattle.node_ports.specs.Step.{one_more}
 
 -- a datagram that was received, but whose arrival was not yet returned
@@ -24,7 +24,7 @@ pub record Datagram : Type 0 where
 
 pub record UdpState : Type 0 where
   -- the endpoints with faces
-  pub known : KnownEndpoints
+  pub known : FaceTable
   -- the number of peers' faces that are already opened
   pub opened : ℕ
   -- the faces of the first `local` peers are Local, and the faces of the other peers are Far
@@ -48,6 +48,7 @@ bound_to peers local told = record {
   known = record {
     peers = peers;
     clients = record { rows = []; idle = None };
+    spare = 0;
     next = length peers + 1;
     refused = None;
   };
@@ -103,7 +104,7 @@ GivesWaiting before after buffer (Packet face now len) =
     (endpoint : SocketAddr) × (octets : List ℕ) × (rows : List Client) × HasOpened before
     × (before.waiting ≡ Some (record { endpoint = endpoint; face = Some face; octets = octets }))
     × (take len buffer ≡ take (length buffer) octets)
-    × MayHear before.known.clients.rows rows endpoint now
+    × MayHear before.known.clients.rows rows (Udp endpoint) now
     × (after ≡ record before {
       known = with_clients before.known rows;
       waiting = None;
@@ -128,18 +129,18 @@ kept endpoint face datagram = record {
 -- closes. The client whose face closes may be this endpoint.
 abbrev pub Brings : UdpState → UdpState → SocketAddr → List ℕ → List ℕ → Arrival → Type 0
 Brings before after endpoint datagram buffer (Packet face now len) =
-    (known : KnownEndpoints) × Meets before.known known endpoint now (Face face)
+    (known : FaceTable) × Meets before.known known (Udp endpoint) now (Face face)
     × (take len buffer ≡ take (length buffer) datagram)
     × (after ≡ record before { known = known; waiting = None; told = now })
 Brings before after endpoint datagram buffer (FaceUp face scope now) =
-    (known : KnownEndpoints) × Meets before.known known endpoint now (Opening face) × (scope ≡ Far)
+    (known : FaceTable) × Meets before.known known (Udp endpoint) now (Opening face) × (scope ≡ Far)
     × (after ≡ record before {
       known = known;
       waiting = Some (kept endpoint (Some face) datagram);
       told = now;
     })
 Brings before after endpoint datagram buffer (FaceDown face now) =
-    (known : KnownEndpoints) × Meets before.known known endpoint now (Closing face)
+    (known : FaceTable) × Meets before.known known (Udp endpoint) now (Closing face)
     × (after ≡ record before {
       known = known;
       waiting = Some (kept endpoint None datagram);
@@ -156,7 +157,7 @@ Listens before = HasOpened before × (before.waiting ≡ None)
 -- that are not peers are accepted too
 abbrev pub IsAccepted : UdpState → SocketAddr → Type 0
 IsAccepted before endpoint =
-    (before.accepts_strangers ≡ true) ⊎ (position (is_at endpoint) before.known.peers ≢ None)
+    (before.accepts_strangers ≡ true) ⊎ (place_among before.known.peers endpoint ≢ None)
 
 -- Datagrams from endpoints that are not peers may have been dropped and counted, and nothing else
 -- changed. If datagrams from endpoints that are not peers are accepted, no datagram was dropped.

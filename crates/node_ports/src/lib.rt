@@ -2,13 +2,10 @@
 //! memory, ports over UDP, ports with a journal, and ports that give some events first.
 #![tactic(auto)]
 
-mod clients;
 mod datagram;
 mod held;
 mod journalled;
-mod known_endpoints;
 mod memory;
-mod peers;
 mod ports;
 mod renewal;
 mod restarted;

@@ -5,11 +5,11 @@ ghost use Rattle.node_core.specs.Script.LineWriter.{event_text};
 ghost use Rattle.node_ports.specs.Ports.{LiesWithin, arrived};
 ghost use Rattle.node_ports.specs.Step.{FailedNext, FailedSend, FailedWrite, Gave, Got, PortStep, count_after, failures_in, is_committed, line_steps, step_of};
 
-use crate::clients::GIVE_WAY_MILLISECONDS;
 use crate::datagram::ANSWER_SECONDS;
 use crate::renewal::Renewal;
 use crate::serving::Turn;
 use crate::udp::SOON_MILLISECONDS;
+use face_table::GIVE_WAY_MILLISECONDS;
 use forwarder::{Event, Verdict};
 use info_rules::Rules;
 use ndn_packets::MAX_FRAME;

@@ -3,15 +3,18 @@ ghost use Rattle.std.specs.Prelude.{◌≡◌, ◌<◌, ◌≤◌, ◌↔◌, �
 ghost use Rattle.std.specs.Option.{option_or};
 ghost use Rattle.std.specs.declared.net.socket_addr.SocketAddr.{SocketAddr};
 ghost use Rattle.node_ports.specs.Endpoints.{AreLocalhostAt, IsLocalhostAt};
-ghost use Rattle.node_ports.specs.KnownEndpoints.{endpoint_at};
+ghost use Rattle.face_table.specs.Clients.{IsNoClient, MayHear};
+ghost use Rattle.face_table.specs.Table.{Leaves, Meets, endpoint_at, link_at, with_clients};
+ghost use Rattle.face_table.specs.declared.clients.Client.{Client};
+ghost use Rattle.face_table.specs.declared.table.FaceTable.{FaceTable};
 ghost use Rattle.node_ports.specs.Ports.{Arrival, LiesWithin, arrived};
 ghost use Rattle.node_ports.specs.Step.{Got, count_after, failures_in, one_more, step_of};
 ghost use Rattle.node_ports.specs.Udp.{Brings, DropsStrangers, FailsReceiving, GivesWaiting, BringsAfterClosing, HasOpened, IsAccepted, Listens, OpensPeer, UdpGives, bound_to, closes_after, kept, waiting_at};
 
-use crate::known_endpoints::{KnownEndpoints, Met};
 use crate::ports::{Arrival, FRAME_ROOM, PortFault, Ports, put_front};
 use crate::serving::Turn;
-use forwarder::{Event, MAX_FACES, Scope, Verdict};
+use face_table::{FaceTable, Link, MAX_FACES, Met};
+use forwarder::{Event, Scope, Verdict};
 use info_rules::Rules;
 use node_core::WrittenEvent;
 use std::marker::Model;
@@ -49,7 +52,7 @@ pub trait Moments: Drop {
 pub struct UdpPorts<M: Moments> {
     socket: UdpSocket,
     moments: M,
-    known: KnownEndpoints,
+    known: FaceTable,
     // The number of peers' faces that are already opened.
     opened: usize,
     local: u64,
@@ -144,7 +147,7 @@ impl<M: Moments> UdpPorts<M> {
         Ok(UdpPorts {
             socket,
             moments,
-            known: KnownEndpoints::new(peers),
+            known: FaceTable::new(peers),
             opened: 0,
             local,
             waiting: None,
@@ -212,6 +215,85 @@ impl<M: Moments> UdpPorts<M> {
         None
     }
 
+    /// From now on, no call waits for a datagram, and no send waits for the socket: `next` fails, and
+    /// `next_soon` returns `None`, if no datagram has come. Clients with Far faces leave `spare`
+    /// places, of the 64, to peers and to Local links. For ports that wait for other sockets too.
+    /// Returns false if the system refuses.
+    pub fn share_with_connections(&mut self, spare: usize) -> bool
+        ensures { self.new ≡ record self.old { known = record self.old.known { spare = spare } } }
+    {
+        self.known.spare = spare;
+        self.socket.set_nonblocking(true).is_ok()
+    }
+
+    /// Drops the datagram that waits, if one waits, and counts it among those of strangers.
+    pub fn drop_waiting(&mut self)
+        ensures { self.new ≡ record self.old {
+          waiting = None;
+          strangers = one_more self.old.strangers;
+        } }
+    {
+        self.waiting = None;
+        self.count_stranger();
+    }
+
+    /// Returns the socket, for a program that waits for several sockets.
+    pub fn socket(&self) -> &UdpSocket {
+        &self.socket
+    }
+
+    /// Returns whether an arrival is due for which no datagram must be received: a peer's face is
+    /// to be opened, or a datagram waits.
+    pub fn is_due(&self) -> bool
+        ensures { result ≡ false → Listens self.now }
+    {
+        self.opened < self.known.peers.len() || self.waiting.is_some()
+    }
+
+    /// Decides what to do with what arrives from a link now, for ports that have further links.
+    /// Returns the present time and the decision.
+    pub fn meet(&mut self, link: Link) -> (u64, Met)
+        ensures { (known : FaceTable) × Meets self.old.known known link result.0 result.1
+            × (self.new ≡ record self.old { known = known; told = result.0 }) }
+    {
+        let now = self.now();
+        (now, self.known.meet(link, now))
+    }
+
+    /// Notes that something arrived from a link now, if the link is a client's. Returns the present
+    /// time.
+    pub fn hear(&mut self, link: Link) -> u64
+        ensures { (rows : List Client) × MayHear self.old.known.clients.rows rows link result
+            × (self.new ≡ record self.old {
+              known = with_clients self.old.known rows;
+              told = result;
+            }) }
+    {
+        let now = self.now();
+        self.known.hear_client(link, now);
+        now
+    }
+
+    /// Removes the client with this link, whose connection has ended, and returns its face. Returns
+    /// `None` if no client has this link.
+    pub fn leave(&mut self, link: Link) -> Option<u64>
+        ensures left { IfSome result (λ face. (known : FaceTable)
+            × Leaves self.old.known known link face
+            × (self.new ≡ record self.old { known = known })) }
+        ensures none { result ≡ None → IsNoClient self.old.known.clients.rows link
+            × (self.new ≡ self.old) }
+    {
+        let face = self.known.leave(link)?;
+        Some(face)
+    }
+
+    /// Returns the link of a face, or `None` if nothing has this face.
+    pub fn link_of(&self, face: u64) -> Option<Link>
+        ensures { result ≡ link_at self.now.known face }
+    {
+        self.known.link_of(face)
+    }
+
     /// Returns whether datagrams from this endpoint are accepted.
     fn accepts(&self, endpoint: SocketAddr) -> bool
         ensures { IsTrue result ↔ IsAccepted self.now endpoint }
@@ -228,8 +310,8 @@ impl<M: Moments> UdpPorts<M> {
         self.strangers = self.strangers.saturating_add(1);
     }
 
-    /// Counts a failed call.
-    fn fail(&mut self) -> PortFault
+    /// Counts a failed call, also one of ports that stand on these.
+    pub fn fail(&mut self) -> PortFault
         ensures { self.new ≡ record self.old { failures = one_more self.old.failures } }
     {
         self.failures = self.failures.saturating_add(1);
@@ -237,7 +319,7 @@ impl<M: Moments> UdpPorts<M> {
     }
 
     /// Returns the present time.
-    fn now(&mut self) -> u64
+    pub fn now(&mut self) -> u64
         ensures { self.new ≡ record self.old { told = result } }
     {
         self.moments.now()
@@ -254,7 +336,7 @@ impl<M: Moments> UdpPorts<M> {
         ensures gives { GivesWaiting self.old self.new buffer.new result }
     {
         let now = self.now();
-        self.known.hear_client(endpoint, now);
+        self.known.hear_client(Link::Udp(endpoint), now);
         let len = put_front(&self.octets[..self.len], buffer);
         self.waiting = None;
         Event::Packet {
@@ -274,7 +356,7 @@ impl<M: Moments> UdpPorts<M> {
         ensures gives { BringsAfterClosing self.old self.new buffer.new result }
     {
         let now = self.now();
-        match self.known.meet(endpoint, now) {
+        match self.known.meet(Link::Udp(endpoint), now) {
             Met::Face(face) => {
                 let len = put_front(&self.octets[..self.len], buffer);
                 self.waiting = None;
@@ -334,7 +416,7 @@ impl<M: Moments> UdpPorts<M> {
         ensures brings { Brings self.old self.new endpoint (take len buffer.now) buffer.now result }
     {
         let now = self.now();
-        match self.known.meet(endpoint, now) {
+        match self.known.meet(Link::Udp(endpoint), now) {
             Met::Face(face) => Event::Packet {
                 face,
                 now,

@@ -1,0 +1,20 @@
+use Rattle.std.proofs.Common.{slice_index_or, ap, sym, ◌∙◌}
+use Rattle.std.proofs.lemmas.Option.{slice_get-get_or}
+use Rattle.face_table.specs.Clients.{ClientsState}
+use Rattle.face_table.proofs.Silent.{nobody}
+use Rattle.face_table.proofs.table.FaceTable.leave.Goals as goal
+
+pub returns-clause-left : goal.returns-clause-left
+returns-clause-left c =
+    let self = c.args.self.now in
+    let rows = self.clients.rows in
+    let place = c.in_ok-place.place in
+    let client = slice_index_or rows place nobody in
+    let is = slice_get-get_or rows place nobody c.in_ok-place.ensures.within in (
+      place,
+      client,
+      sym c.place_of.ensures.first ∙ c.in_ok-place.was,
+      is,
+      c.face_at-face.ensures client is,
+      ap (λ (s : ClientsState). record self { clients = s }) c.remove.ensures,
+    )

@@ -1,0 +1,3 @@
+pub mod Link
+pub mod Clients
+pub mod Table

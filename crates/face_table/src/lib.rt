@@ -1,0 +1,13 @@
+//! Which face a packet arrives on, and which faces open and close, for the faces over UDP, TCP and
+//! Unix sockets of a node. This crate has no socket and no clock.
+#![tactic(auto)]
+
+mod clients;
+mod link;
+mod peers;
+mod table;
+
+pub use clients::{Client, Clients, GIVE_WAY_MILLISECONDS};
+pub use link::Link;
+pub use peers::{MAX_FACES, Peers};
+pub use table::{FaceTable, Met};

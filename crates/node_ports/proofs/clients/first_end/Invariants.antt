@@ -1,5 +1,0 @@
-use Rattle.node_ports.proofs.Silent.{EndAfter}
-use Rattle.node_ports.proofs.clients.first_end.Given as goal
-
-abbrev pub invariant-loop-place : goal.invariant-loop-place
-invariant-loop-place l = EndAfter l.clients l.time l.place l.first

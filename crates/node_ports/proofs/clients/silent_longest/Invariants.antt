@@ -1,5 +1,0 @@
-use Rattle.node_ports.proofs.Silent.{IsLongestOf}
-use Rattle.node_ports.proofs.clients.silent_longest.Given as goal
-
-abbrev pub invariant-loop-place : goal.invariant-loop-place
-invariant-loop-place l = IsLongestOf l.clients l.place l.longest
