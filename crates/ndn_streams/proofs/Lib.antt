@@ -4,3 +4,4 @@ pub mod Streams
 pub mod Calls
 pub mod Queues
 pub mod PacketStreams
+pub mod Connections

@@ -5,3 +5,4 @@ pub mod Cutting
 pub mod Found
 pub mod Queue
 pub mod PacketStream
+pub mod Connection

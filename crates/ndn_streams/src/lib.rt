@@ -3,6 +3,7 @@
 #![tactic(auto)]
 
 mod buffer;
+mod connection;
 mod cutter;
 mod fault;
 mod law;
@@ -10,6 +11,7 @@ mod packet_stream;
 mod queue;
 mod size;
 
+pub use connection::Connection;
 pub use cutter::Cutter;
 pub use fault::StreamFault;
 pub use law::{

@@ -1,6 +1,9 @@
-//! Tests of cutting streams into packets, and of the packets that wait to be written.
+//! Tests of cutting streams into packets, of the packets that wait to be written, and of
+//! connections.
 #![tactic(auto)]
 
+#[cfg(test)]
+mod connection;
 #[cfg(test)]
 mod cuts;
 #[cfg(test)]

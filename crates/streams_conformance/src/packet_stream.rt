@@ -101,9 +101,9 @@ impl Read for Failing {
 
 /// A sink whose calls go by the steps that the comment of `CALLS` explains.
 #[derive(Drop)]
-struct Steps<'a> {
-    steps: &'a [u8],
-    got: Vec<u8>,
+pub struct Steps<'a> {
+    pub steps: &'a [u8],
+    pub got: Vec<u8>,
 }
 
 impl Write for Steps<'_> {
@@ -123,7 +123,7 @@ impl Write for Steps<'_> {
 }
 
 /// Returns how many octets a sink takes at a step, or its error.
-fn count_of(step: u8) -> io::Result<usize> {
+pub fn count_of(step: u8) -> io::Result<usize> {
     match step {
         b'b' => Err(io::Error::from(ErrorKind::WouldBlock)),
         b'i' => Err(io::Error::from(ErrorKind::Interrupted)),
@@ -232,7 +232,7 @@ fn put_next(alloc: Global, stream: &mut PacketStream, size: &str, text: &mut Str
 }
 
 /// Appends what the sink got, or `.`.
-fn put_got(alloc: Global, got: &[u8], text: &mut String) -> Option<()> {
+pub fn put_got(alloc: Global, got: &[u8], text: &mut String) -> Option<()> {
     if got.is_empty() {
         return put_word(text, ".");
     }
