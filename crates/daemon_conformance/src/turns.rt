@@ -53,6 +53,8 @@ fn options(alloc: Global, turns: u64, log: LogLevel) -> Option<UdpOptions> {
         log,
         journal: None,
         quiet: false,
+        tcp: None,
+        unix: None,
     })
 }
 

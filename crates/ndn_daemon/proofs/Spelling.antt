@@ -23,6 +23,8 @@ module _ {A B : Type 0} (Part : A → Type 0) (Whole : B → Type 0) (part : (y 
   wrong_part fault.LargeKeys h = h
   wrong_part (fault.Script why) h = h
   wrong_part (fault.Unbound endpoint) h = h
+  wrong_part (fault.UnboundTcp endpoint) h = h
+  wrong_part (fault.UnboundUnix path) h = h
   wrong_part fault.Unreceived h = h
   wrong_part (fault.Journal why) h = h
 
@@ -40,6 +42,8 @@ module _ {A B : Type 0} (Part : A → Type 0) (Whole : B → Type 0) (part : (y 
   refused_part (fault.Script (run.Node why)) h = h
   refused_part (fault.Script run.Memory) h = h
   refused_part (fault.Unbound endpoint) h = h
+  refused_part (fault.UnboundTcp endpoint) h = h
+  refused_part (fault.UnboundUnix path) h = h
   refused_part fault.Unreceived h = h
   refused_part (fault.Journal why) h = h
 
@@ -57,6 +61,8 @@ module _ {A B : Type 0} (Part : A → Type 0) (Whole : B → Type 0) (part : (y 
   wrong_in_memory (fault.Script (run.Node why)) h = h
   wrong_in_memory (fault.Script run.Memory) h = absurd h
   wrong_in_memory (fault.Unbound endpoint) h = h
+  wrong_in_memory (fault.UnboundTcp endpoint) h = h
+  wrong_in_memory (fault.UnboundUnix path) h = h
   wrong_in_memory fault.Unreceived h = h
   wrong_in_memory (fault.Journal why) h = h
 
@@ -72,5 +78,7 @@ bad_value_wrong Spell none (fault.Keys why) h = h
 bad_value_wrong Spell none fault.LargeKeys h = h
 bad_value_wrong Spell none (fault.Script why) h = h
 bad_value_wrong Spell none (fault.Unbound endpoint) h = h
+bad_value_wrong Spell none (fault.UnboundTcp endpoint) h = h
+bad_value_wrong Spell none (fault.UnboundUnix path) h = h
 bad_value_wrong Spell none fault.Unreceived h = h
 bad_value_wrong Spell none (fault.Journal why) h = h

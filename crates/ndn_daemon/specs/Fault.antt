@@ -12,7 +12,7 @@ use Rattle.node_core.specs.declared.script.RunFault.TheVariants.{BadLine, Read, 
 use Rattle.file_faults.specs.Advice.{cause_of, key_text}
 use Rattle.ndn_daemon.specs.Advice.{advice_on_rules, is_memory}
 use Rattle.ndn_daemon.specs.declared.fault.Fault.{Fault}
-use Rattle.ndn_daemon.specs.declared.fault.Fault.TheVariants.{CommandLine, BadValue, NotText, Unread, Rules, Keys, LargeKeys, Script, Unbound, Unreceived, Journal}
+use Rattle.ndn_daemon.specs.declared.fault.Fault.TheVariants.{CommandLine, BadValue, NotText, Unread, Rules, Keys, LargeKeys, Script, Unbound, UnboundTcp, UnboundUnix, Unreceived, Journal}
 use Rattle.ndn_daemon.specs.declared.fault.JournalFault.{JournalFault}
 use Rattle.ndn_daemon.specs.declared.fault.JournalFault.TheVariants as journal
 
@@ -42,6 +42,8 @@ status_of (Script (Node BadCapacity)) = 2
 status_of (Script (Node NodeMemory)) = 3
 status_of (Script Memory) = 3
 status_of (Unbound endpoint) = 3
+status_of (UnboundTcp endpoint) = 3
+status_of (UnboundUnix path) = 3
 status_of Unreceived = 3
 status_of (Journal journal.Locked) = 3
 status_of (Journal (journal.BadLine line)) = 1
@@ -105,5 +107,9 @@ text_of LargeKeys = Some (codes "keys:0: TooLarge\n  at most 8388608 octets are 
 text_of (Script fault) = Some (run_fault_text fault)
 text_of (Unbound endpoint) = Some (codes "error: " ++ socket_text endpoint
     ++ codes " cannot be bound: give an address of this machine and a port that no other program uses\n")
+text_of (UnboundTcp endpoint) = Some (codes "error: " ++ (socket_text endpoint
+    ++ codes " cannot be bound for TCP: give an address of this machine and a port that no other program uses\n"))
+text_of (UnboundUnix path) = Some (codes "error: the Unix socket " ++ (string_bytes path
+    ++ codes " cannot be bound: give a path in a folder that you may write, at which there is no file, and no program listens\n"))
 text_of Unreceived = Some (codes "error: nothing can be received from the port\n")
 text_of (Journal why) = Some (journal_fault_text why)

@@ -1,7 +1,6 @@
 -- The text of turns, and when it is written.
-use Rattle.std.specs.Prelude.{◌≡◌, ◌⊎◌, ◌+◌, ◌<◌, ◌≤◌, ℕ, Bool, true, false, Option, Result, Ok, Err, List, [], ◌∷◌, ◌++◌, codes, ⊤}
+use Rattle.std.specs.Prelude.{◌≡◌, ◌⊎◌, ◌+◌, ◌<◌, ◌≤◌, ℕ, Bool, true, false, Option, Some, Result, Ok, Err, List, [], ◌∷◌, ◌++◌, codes, string_bytes, ⊤}
 use Rattle.std.specs.Io.KnownBytes.{Appends}
-use Rattle.std.specs.declared.net.socket_addr.SocketAddr.{SocketAddr}
 use Rattle.std.specs.List.{flat_map}
 use Rattle.info_rules.specs.Rule.{PlainRule}
 use Rattle.node_ports.specs.declared.serving.Turn.{Turn}
@@ -18,8 +17,11 @@ use Rattle.node_core.specs.Script.Ending.{AppendsFront}
 use Rattle.node_core.specs.Script.Writing.{numbered_line, script_text, send_text, verdict_text}
 use Rattle.node_core.specs.Verdict.{verdict_of}
 use Rattle.ndn_daemon.specs.declared.fault.Fault.{Fault}
-use Rattle.ndn_daemon.specs.declared.fault.Fault.TheVariants.{Script, Unbound, Unreceived, Journal}
+use Rattle.ndn_daemon.specs.declared.fault.Fault.TheVariants.{Script, Unbound, UnboundTcp, UnboundUnix, Unreceived, Journal}
 use Rattle.ndn_daemon.specs.declared.fault.JournalFault.TheVariants as journal
+use Rattle.ndn_daemon.specs.declared.udp_options.UdpOptions.{UdpOptions}
+use Rattle.ndn_daemon.specs.Options.{MayBePath}
+use Rattle.ndn_daemon.specs.UdpOptions.{Connects}
 
 -- The text of a turn in the format of the answers to a script. The text begins with a line with the
 -- verdict. If memory ran out, the line has the word `memory` in place of the verdict. One line for
@@ -138,14 +140,18 @@ EndsTurns (Script Memory) = ⊤
 EndsTurns (Journal journal.Unwritten) = ⊤
 EndsTurns why = ⊥
 
--- why a node with valid parts takes no turns on this endpoint: the endpoint cannot be bound, or
--- memory ran out when the node was created
-abbrev pub HasNoTurns : SocketAddr → Fault → Type 0
-HasNoTurns endpoint (Unbound other) = other ≡ endpoint
-HasNoTurns endpoint (Script (Node why)) = why ≡ NodeMemory
-HasNoTurns endpoint why = ⊥
+-- why a node with valid parts and these options takes no turns: an endpoint or the path of the Unix
+-- socket cannot be bound, the system cannot wait for the sockets, or memory ran out when the node
+-- was created
+abbrev pub HasNoTurns : UdpOptions → Fault → Type 0
+HasNoTurns options (Unbound endpoint) = endpoint ≡ options.listen
+HasNoTurns options (UnboundTcp endpoint) = options.tcp ≡ Some endpoint
+HasNoTurns options (UnboundUnix path) = MayBePath (Some (string_bytes path)) options.unix
+HasNoTurns options Unreceived = Connects options
+HasNoTurns options (Script (Node why)) = why ≡ NodeMemory
+HasNoTurns options why = ⊥
 
--- why a node with valid parts stops on this endpoint: it takes no turns (`HasNoTurns`), or it stops
--- with a fault after the endpoint was bound (`EndsTurns`)
-abbrev pub StopsAt : SocketAddr → Fault → Type 0
-StopsAt endpoint why = HasNoTurns endpoint why ⊎ EndsTurns why
+-- why a node with valid parts and these options stops: it takes no turns (`HasNoTurns`), or it
+-- stops with a fault after its sockets were bound (`EndsTurns`)
+abbrev pub StopsAt : UdpOptions → Fault → Type 0
+StopsAt options why = HasNoTurns options why ⊎ EndsTurns why

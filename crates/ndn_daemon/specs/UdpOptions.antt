@@ -1,5 +1,5 @@
 -- The values of the options of a node on a port.
-use Rattle.std.specs.Prelude.{◌≡◌, ◌↔◌, ◌⊎◌, ℕ, ◌*◌, ◌<◌, ◌≤◌, ◌^◌, List, [], Option, None, Some, Bool, true, false, IsTrue, All, codes, length, take, ⊤}
+use Rattle.std.specs.Prelude.{◌≡◌, ◌↔◌, ◌⊎◌, ℕ, ◌*◌, ◌<◌, ◌≤◌, ◌^◌, List, [], Option, None, Some, Bool, true, false, IsSome, IsTrue, All, codes, length, take, ⊤}
 use Rattle.std.specs.Str.Parse.{IsNumeral, digits_value}
 use Rattle.clap.specs.Walk.{Row, all_of, one_of}
 use Rattle.std.specs.declared.net.socket_addr.SocketAddr.{SocketAddr}
@@ -65,6 +65,16 @@ IsLog (Some text) levels.None = ⊥
 IsLog (Some text) levels.Events = text ≡ codes "events"
 IsLog (Some text) levels.All = text ≡ codes "all"
 
+-- the endpoint is the one that the text spells, or both are None
+abbrev pub MayBeEndpoint : Option (List ℕ) → Option SocketAddr → Type 0
+MayBeEndpoint None None = ⊤
+MayBeEndpoint (Some text) (Some endpoint) = IsEndpoint text endpoint
+MayBeEndpoint text endpoint = ⊥
+
+-- the node listens for connections: over TCP, on a Unix socket, or both
+abbrev pub Connects : UdpOptions → Type 0
+Connects options = IsSome options.tcp ⊎ IsSome options.unix
+
 -- the options of a node on a port; by default, no peer is Local and the idle time is 600 seconds
 pub record IsUdpOptions (rows : List Row) (options : UdpOptions) : Type 0 where
   pub listen : Has (value_at rows (codes "listen")) IsEndpoint options.listen
@@ -78,6 +88,8 @@ pub record IsUdpOptions (rows : List Row) (options : UdpOptions) : Type 0 where
   pub log : IsLog (value_at rows (codes "log")) options.log
   pub journal : MayBePath (value_at rows (codes "journal")) options.journal
   pub quiet : IsFlag (flag_at rows (codes "quiet")) options.quiet
+  pub tcp : MayBeEndpoint (value_at rows (codes "tcp")) options.tcp
+  pub unix : MayBePath (value_at rows (codes "unix")) options.unix
 
 -- The ports for these options. `told` is the time that the clock of the ports returned most
 -- recently. No peer's face is opened yet, and the faces of other endpoints close after the idle

@@ -99,6 +99,15 @@ closes the face that has been silent longest, but only if this silence has laste
 seconds. Otherwise the node drops the datagram. While the node runs, it never gives the same number
 to two faces.
 
+With --tcp or --unix, programs can also connect to the node, and send and get packets one after
+another on the connection. Each connection is a face. It closes when the connection ends or fails,
+when its octets are no packets, or when a packet that it has begun is not whole 10 seconds later.
+Over a Unix socket, and over TCP from a loopback address, the face is Local: its program may send
+commands under /localhost, and the face stays open until the connection ends. Over TCP from another
+address the face is Far, and closes when it is idle or must make room, as that of a stranger. Of the
+64 places for faces, 8 are left to peers and to Local connections. A file that an earlier node left
+at PATH is removed. Only the owner of the file at PATH can connect to it.
+
 A turn handles one event: a face opens or closes, a packet arrives, or the node takes new rules and
 keys. The node prints turn N as `script` prints event N. It reads the time from the machine's clock.
 
@@ -287,7 +296,19 @@ fn udp_command<'a>(alloc: Global) -> Result<Command<'a>, AllocError> {
             "FILE",
             "Records faces, routes, strategies, rules and repository in FILE for the next start",
         ))?
-        .arg(flag(alloc, "quiet", "Prints nothing on standard output"))?;
+        .arg(flag(alloc, "quiet", "Prints nothing on standard output"))?
+        .arg(option(
+            alloc,
+            "tcp",
+            "ENDPOINT",
+            "Also listens for TCP connections on this endpoint",
+        ))?
+        .arg(option(
+            alloc,
+            "unix",
+            "PATH",
+            "Also listens on a Unix socket with this path, for programs of its owner",
+        ))?;
     with_node(alloc, command)?.arg(peers(alloc))
 }
 

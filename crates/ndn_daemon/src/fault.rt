@@ -46,7 +46,17 @@ pub enum Fault {
         /// The address and the port.
         endpoint: SocketAddr,
     },
-    /// No datagram can be received from the port.
+    /// The node cannot listen for TCP connections on this address and port.
+    UnboundTcp {
+        /// The address and the port.
+        endpoint: SocketAddr,
+    },
+    /// The node cannot listen for connections on the Unix socket with this path.
+    UnboundUnix {
+        /// The path.
+        path: String,
+    },
+    /// No datagram can be received from the port, or the system cannot wait for several sockets.
     Unreceived,
     /// The journal cannot be used.
     Journal(JournalFault),
@@ -109,6 +119,8 @@ impl Fault {
             ) => 1,
             Fault::Unread { .. }
             | Fault::Unbound { .. }
+            | Fault::UnboundTcp { .. }
+            | Fault::UnboundUnix { .. }
             | Fault::Unreceived
             | Fault::Journal(
                 JournalFault::Locked | JournalFault::Unwritten | JournalFault::Unshortened,
@@ -179,6 +191,14 @@ impl fmt::Display for Fault {
             Fault::Unbound { endpoint } => writeln!(
                 f,
                 "error: {endpoint} cannot be bound: give an address of this machine and a port that no other program uses"
+            ),
+            Fault::UnboundTcp { endpoint } => writeln!(
+                f,
+                "error: {endpoint} cannot be bound for TCP: give an address of this machine and a port that no other program uses"
+            ),
+            Fault::UnboundUnix { path } => writeln!(
+                f,
+                "error: the Unix socket {path} cannot be bound: give a path in a folder that you may write, at which there is no file, and no program listens"
             ),
             Fault::Unreceived => f.write_str("error: nothing can be received from the port\n"),
             Fault::Journal(JournalFault::Locked) => {

@@ -10,6 +10,7 @@ use info_rules::Rules;
 use journal::JournalFile;
 use ndn_log::{Entry, LoggedEvent};
 use ndn_tlv::Memory;
+use net_ports::NetPorts;
 use node_core::{Event, Verdict, WrittenEvent};
 use node_ports::{
     Arrival, JournalledPorts, MemoryPorts, Moments, PortFault, Ports, RestartedPorts, Turn,
@@ -33,6 +34,16 @@ impl<M: Moments> HasEndpoints for UdpPorts<M> {
 
     fn strangers(&self) -> u64 {
         UdpPorts::strangers(self)
+    }
+}
+
+impl<M: Moments> HasEndpoints for NetPorts<M> {
+    fn endpoint_of(&self, face: u64) -> Option<SocketAddr> {
+        NetPorts::endpoint_of(self, face)
+    }
+
+    fn strangers(&self) -> u64 {
+        NetPorts::strangers(self)
     }
 }
 

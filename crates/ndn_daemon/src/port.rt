@@ -1,8 +1,8 @@
-//! A node on a UDP port of this machine.
+//! A node on the sockets of this machine.
 ghost use Rattle.std.specs.Prelude.{◌≡◌, ◌≢◌, ◌≤◌, ◌⊎◌, ℕ, Err, List, None, Option, length, IfErr, IfSome, IsOk, MatchOption};
 ghost use Rattle.forwarder.specs.Parts.{parts_fault};
 ghost use Rattle.ndn_daemon.specs.Program.{FailsToRestore, RunsAfresh, RunsRestored};
-ghost use Rattle.ndn_daemon.specs.UdpOptions.{ArePortsOf};
+ghost use Rattle.ndn_daemon.specs.UdpOptions.{ArePortsOf, Connects};
 ghost use Rattle.ndn_daemon.specs.Start.{IsStartOf};
 ghost use Rattle.ndn_daemon.specs.Turn.{EndsTurns, HasNoTurns, StopsAt};
 
@@ -15,8 +15,10 @@ use crate::turns::{run, run_restored};
 use crate::udp_options::UdpOptions;
 use crate::watched_ports::RuleSource;
 use ndn_log::Start;
-use node_core::{MAX_FACES, Node, NodeParts, RunFault};
+use net_ports::{BindFault, Listen, NetPorts};
+use node_core::{MAX_FACES, Node, NodeFault, NodeParts, RunFault};
 use node_ports::{Moments, Ports, UdpPorts};
+use std::alloc::Global;
 use std::fs::File;
 use std::io;
 use std::net::Net;
@@ -36,13 +38,13 @@ pub fn run_on_port<
 >(rt: &R, parts: NodeParts, mut moments: M, source: S, options: &UdpOptions) -> Result<(), Fault>
     requires { length options.now.peers.items ≤ MAX_FACES }
     ensures parts { MatchOption (parts_fault parts.repo parts.cache)
-        (options.now.journal ≡ None → IfErr result (StopsAt options.now.listen))
+        (options.now.journal ≡ None → IfErr result (StopsAt options.now))
         (λ fault. result ≡ Err (Fault.Script (RunFault.Node fault))) }
     // If the parts are valid, and the options ask for 0 turns and name no journal, there are only
-    // two possible faults: the endpoint cannot be bound, or memory runs out when the node is
-    // created.
+    // two possible faults: a socket cannot be bound or waited for, or memory runs out when the node
+    // is created.
     ensures none { options.now.turns ≡ 0 → options.now.journal ≡ None
-        → parts_fault parts.repo parts.cache ≡ None → IfErr result (HasNoTurns options.now.listen) }
+        → parts_fault parts.repo parts.cache ≡ None → IfErr result (HasNoTurns options.now) }
 {
     let start = start_of(&parts, options, moments.now());
     let mut node = match Node::new(rt.alloc(), parts) {
@@ -82,16 +84,41 @@ fn take_bound<
     start: Start,
 ) -> Result<(), Fault>
     requires { length options.now.peers.items ≤ MAX_FACES }
-    ensures fault { options.now.journal ≡ None → IfErr result (StopsAt options.now.listen) }
+    ensures fault { options.now.journal ≡ None → IfErr result (StopsAt options.now) }
     ensures none { options.now.turns ≡ 0 → options.now.journal ≡ None
-        → IfErr result (HasNoTurns options.now.listen) }
+        → IfErr result (HasNoTurns options.now) }
 {
     let Some(ports) = bound_ports(rt, moments, options) else {
         return Err(Fault::Unbound {
             endpoint: options.listen,
         });
     };
-    take_as_begun(rt, node, ports, source, options, start)
+    if !options.connects() {
+        return take_as_begun(rt, node, ports, source, options, start);
+    }
+    let listen = Listen {
+        tcp: options.tcp,
+        unix: options.unix.as_deref(),
+    };
+    match NetPorts::open(rt, ports, listen) {
+        Ok(ports) => take_as_begun(rt, node, ports, source, options, start),
+        Err(fault) => Err(unbound(rt.alloc(), fault, options)),
+    }
+}
+
+/// Returns the fault of a node that cannot listen for connections as the options ask.
+fn unbound(alloc: Global, fault: BindFault, options: &UdpOptions) -> Fault
+    requires { Connects options.now }
+    ensures { HasNoTurns options.now result }
+{
+    match (fault, options.tcp, &options.unix) {
+        (BindFault::Tcp, Some(endpoint), _) => Fault::UnboundTcp { endpoint },
+        (BindFault::Unix, _, Some(path)) => match String::from_str(alloc, path) {
+            Ok(path) => Fault::UnboundUnix { path },
+            Err(_) => Fault::Script(RunFault::Node(NodeFault::Memory)),
+        },
+        _ => Fault::Unreceived,
+    }
 }
 
 /// Lets a node take the requested turns, with a journal if the options name one. What the writer,

@@ -2,7 +2,7 @@
 ghost use Rattle.std.specs.Prelude.{◌≡◌, ◌⊎◌, ◌↔◌, ℕ, IsTrue, MatchOption, codes, map, option_map};
 ghost use Rattle.ndn_daemon.specs.Endpoint.{AreEndpoints, IsEndpoint, IsItself, IsLoopback, IsPort, IsUnspecified, MayBePeersOf};
 ghost use Rattle.ndn_daemon.specs.Options.{Reads, ReadsInMemory, rows_in, value_at};
-ghost use Rattle.ndn_daemon.specs.UdpOptions.{Has, IsBadValue, IsFlag, IsLocal, IsLog, IsNumber, IsSeconds, IsUdpOptions, all_addresses, flag_at, values_at};
+ghost use Rattle.ndn_daemon.specs.UdpOptions.{Connects, Has, IsBadValue, IsFlag, IsLocal, IsLog, IsNumber, IsSeconds, IsUdpOptions, MayBeEndpoint, all_addresses, flag_at, values_at};
 
 use crate::fault::Fault;
 use crate::options::{given_or, path_of, value};
@@ -48,11 +48,15 @@ pub struct UdpOptions {
     pub journal: Option<String>,
     /// Whether the node prints no answers.
     pub quiet: bool,
+    /// The address and the port on which the node listens for TCP connections, if it does.
+    pub tcp: Option<SocketAddr>,
+    /// The path of the Unix socket on which the node listens for connections, if it does.
+    pub unix: Option<String>,
 }
 
 impl UdpOptions {
-    /// Returns what the node warns of when it starts, or `None`. A node that listens on all addresses
-    /// (0.0.0.0 or ::) sends from an address that the system chooses.
+    /// Returns what the node warns of when it starts, or `None`. A node that listens on all
+    /// addresses (0.0.0.0 or ::) sends from an address that the system chooses.
     pub fn warning(&self) -> Option<&'static str>
         ensures { MatchOption result (¬ IsUnspecified self.now.listen)
             (λ text. IsUnspecified self.now.listen × (text.now ≡ all_addresses)) }
@@ -78,6 +82,8 @@ impl UdpOptions {
         let idle = seconds_of(given_or("600", value(found, "idle")))?;
         let log = log_of(value(found, "log"))?;
         let journal = path_of(alloc, value(found, "journal"))?;
+        let tcp = given_endpoint("--tcp", value(found, "tcp"))?;
+        let unix = path_of(alloc, value(found, "unix"))?;
         Ok(UdpOptions {
             listen,
             turns,
@@ -88,7 +94,16 @@ impl UdpOptions {
             log,
             journal,
             quiet: flag(found, "quiet"),
+            tcp,
+            unix,
         })
+    }
+
+    /// Returns whether the node listens for connections: over TCP, on a Unix socket, or both.
+    pub fn connects(&self) -> bool
+        ensures { IsTrue result ↔ Connects self.now }
+    {
+        self.tcp.is_some() || self.unix.is_some()
     }
 
     /// Returns whether datagrams from endpoints that are not peers are accepted. They are accepted
@@ -124,6 +139,16 @@ fn flag(found: &ArgMatches<'_>, id: &str) -> bool
     ensures { IsFlag (flag_at (rows_in found.now) id.now) result }
 {
     found.get_flag(id)
+}
+
+/// Reads the address and the port that are given for an option, if it is present.
+fn given_endpoint(place: &'static str, text: Option<&str>) -> Result<Option<SocketAddr>, Fault>
+    ensures { Reads (MayBeEndpoint (option_map (λ text. text.now) text.entry)) result }
+{
+    match text {
+        Some(text) => Ok(Some(endpoint_of(place, text)?)),
+        None => Ok(None),
+    }
 }
 
 fn given_peers(alloc: Global, found: &ArgMatches<'_>) -> Result<Vec<SocketAddr>, Fault>

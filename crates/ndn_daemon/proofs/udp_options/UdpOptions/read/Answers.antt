@@ -44,3 +44,13 @@ pub returns-in_err-journal : goal.returns-in_err-journal
 returns-in_err-journal c =
     let p = err_from_is_err_and c.from_residual-in_err-journal.result c.from_residual-in_err-journal.ensures.1 in
     rw (p.1, p.2) (refused_part _ _ (λ options h. (options.journal, h.journal)) c.in_err-journal.field-0.0 (rw c.value-4.ensures at c.in_err-journal.ensures))
+
+pub returns-in_err-tcp : goal.returns-in_err-tcp
+returns-in_err-tcp c =
+    let p = err_from_is_err_and c.from_residual-in_err-tcp.result c.from_residual-in_err-tcp.ensures.1 in
+    rw (p.1, p.2) (wrong_in_memory _ _ (λ options h. (options.tcp, h.tcp)) c.in_err-tcp.field-0.0 (rw c.value-5.ensures at c.in_err-tcp.ensures))
+
+pub returns-in_err-unix : goal.returns-in_err-unix
+returns-in_err-unix c =
+    let p = err_from_is_err_and c.from_residual-in_err-unix.result c.from_residual-in_err-unix.ensures.1 in
+    rw (p.1, p.2) (refused_part _ _ (λ options h. (options.unix, h.unix)) c.in_err-unix.field-0.0 (rw c.value-6.ensures at c.in_err-unix.ensures))

@@ -1,0 +1,36 @@
+//! The connections that have faces.
+use crate::wire::Wire;
+use face_table::Link;
+use ndn_streams::Connection;
+
+/// A connection and its face.
+#[derive(Drop)]
+pub struct ConnectedFace {
+    pub link: Link,
+    /// The number of the connection.
+    pub number: u64,
+    pub face: u64,
+    pub connection: Connection<Wire>,
+}
+
+/// Notes that the socket of the connection with this number may go on.
+pub fn wake(faces: &mut [ConnectedFace], number: u64) {
+    for face in faces.iter_mut() {
+        if face.number == number {
+            face.connection.wake();
+        }
+    }
+}
+
+/// Returns whether some connection may go on.
+pub fn may_go_on(faces: &[ConnectedFace]) -> bool {
+    faces.iter().any(|face| face.connection.may_go_on())
+}
+
+/// Ends the connections that have been in the middle of a packet for `limit` milliseconds at the
+/// time `now`.
+pub fn check(faces: &mut [ConnectedFace], now: u64, limit: u64) {
+    for face in faces.iter_mut() {
+        face.connection.check(now, limit);
+    }
+}
