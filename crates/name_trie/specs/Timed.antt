@@ -1,5 +1,5 @@
--- Values with deadlines, their timers, and their total size.
-use Rattle.std.specs.Prelude.{◌≡◌, ◌<◌, ◌+◌, ◌%◌, ◌^◌, ℕ, Bool, true, false, ◌==◌, Option, None, Some}
+-- Values with deadlines, their timers, and the sums over all values.
+use Rattle.std.specs.Prelude.{◌≡◌, ◌<◌, ◌≤◌, ◌+◌, ℕ, Bool, true, false, ◌==◌, Option, None, Some}
 use Rattle.std.specs.Option.{option_map}
 use Rattle.std.specs.FinSet as set
 use Rattle.std.specs.FinMap.{entries}
@@ -38,18 +38,27 @@ abbrev pub HasTimerRoom : Bool → Waiting → Type 0
 HasTimerRoom false w = Unit {0}
 HasTimerRoom true w = set.len w.timers < w.capacity
 
--- ---- the total size
+-- ---- the sums over all values
 
 -- the size of the value of the node k, or 0 if the node has no value
 abbrev pub size_at : {V : Type 0} → (V → ℕ) → Heap V → ℕ → ℕ
 size_at size h k = size_of size (value h k)
 
--- If `len` is a sum of sizes modulo 2^64, and one of these sizes changes from `was` to `is`, `len'`
--- is the new sum modulo 2^64.
-abbrev pub Recounts : (was is len len' : ℕ) → Type 0
-Recounts was is len len' =
-    (sum sum' : ℕ) → sum' + was ≡ sum + is → len ≡ sum % 2 ^ 64 → len' ≡ sum' % 2 ^ 64
+-- For each index, `sum` is at least what the value of the node k counts.
+abbrev pub HasCounts : {I V : Type 0} → (I → V → ℕ) → Heap V → ℕ → (I → ℕ) → Type 0
+HasCounts counts h k sum = (i : _) → size_at (counts i) h k ≤ sum i
 
--- `len` is the total size of all values of the trie, modulo 2^64
-abbrev pub IsCounted : {V : Type 0} → (V → ℕ) → Heap V → Option ℕ → ℕ → Type 0
-IsCounted size h root len = len ≡ total size (entries (table_of h root)) % 2 ^ 64
+-- For each index, `sum'` is `sum` with what the value of the node k counts in `h'` in place of what
+-- this value counts in `h`.
+abbrev pub Recounts : {I V : Type 0} → (I → V → ℕ) → (h h' : Heap V) → ℕ → (sum sum' : I → ℕ)
+    → Type 0
+Recounts counts h h' k sum sum' =
+    (i : _) → sum' i + size_at (counts i) h k ≡ sum i + size_at (counts i) h' k
+
+-- for each index, `sum` is the sum of what all values of the trie count
+abbrev pub IsCounted : {I V : Type 0} → (I → V → ℕ) → Heap V → Option ℕ → (I → ℕ) → Type 0
+IsCounted counts h root sum = (i : _) → sum i ≡ total (counts i) (entries (table_of h root))
+
+-- `change` does not raise what a value counts, for any index
+abbrev pub LeavesFewer : {I V : Type 0} → (I → V → ℕ) → (V → Option V) → Type 0
+LeavesFewer counts change = (i : _) (v w : _) → change v ≡ Some w → counts i w ≤ counts i v

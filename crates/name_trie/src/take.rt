@@ -6,12 +6,13 @@ ghost use Rattle.ndn_tlv.specs.Element.{Field};
 ghost use Rattle.ndn_names.specs.View.{components};
 ghost use Rattle.name_trie.specs.Trie.{value as value_in, walk, lookup, Sound};
 ghost use Rattle.name_trie.specs.Changes.{Turns, IsBare};
-ghost use Rattle.name_trie.specs.Timed.{IsTimed, IsCounted, Recounts, size_at as size_in};
+ghost use Rattle.name_trie.specs.Timed.{IsTimed, HasCounts, IsCounted, LeavesFewer, Recounts};
 ghost use Rattle.name_trie.specs.Taken.{taken, taken_along, changed_along};
 
 use crate::change::take_value;
 use crate::node::{Node, child_of, set_value, value_of};
-use crate::timed::{Timed, recount, retime, size_at, timer_at};
+use crate::tally::{Tally, lower_at, raise_at};
+use crate::timed::{Timed, retime, timer_at};
 use ndn_names::Name;
 use slab::Slab;
 use timers::Timers;
@@ -49,35 +50,37 @@ fn take_from<V: Drop, T: Take<V>>(nodes: &mut Slab<Node<V>>, k: usize, is_own: b
 }
 
 /// Lets the visitor `how` change or remove the value of node `k`, if the node has a value. Updates
-/// the timer of this node and the total size `len`.
-pub fn take_at<V: Timed + Drop, T: Take<V>>(
+/// the timer of this node and the tally. `how` must not raise what a value counts.
+pub fn take_at<V: Timed + Drop, S: Tally<V>, T: Take<V>>(
     nodes: &mut Slab<Node<V>>,
     timers: &mut Timers,
-    len: &mut usize,
+    tally: &mut S,
     k: usize,
     is_own: bool,
     how: &mut T,
 )
-    requires { IsTimed V.timer (get nodes.old) timers.old.timers }
+    requires timed { IsTimed V.timer (get nodes.old) timers.old.timers }
+    requires has { HasCounts S.counts (get nodes.old) k (S.sum tally.old) }
+    requires fewer { LeavesFewer S.counts (T.left is_own) }
     ensures turns { Turns k (option_and_then (T.left is_own) (value_in (get nodes.old) k))
         (get nodes.old) (get nodes.new) }
     ensures taken { how.new ≡ taken (T.taken is_own) how.old (value_in (get nodes.old) k) }
     ensures timed { IsTimed V.timer (get nodes.new) timers.new.timers }
-    ensures counted { Recounts (size_in V.size (get nodes.old) k)
-        (size_in V.size (get nodes.new) k) len.old len.new }
+    ensures counted { Recounts S.counts (get nodes.old) (get nodes.new) k
+        (S.sum tally.old) (S.sum tally.new) }
     ensures few { set.len timers.new.timers ≤ set.len timers.old.timers }
     ensures capacity { timers.old.capacity ≤ timers.new.capacity }
 {
     if value_of(nodes, k).is_none() {
         return;
     }
+    tally.stands();
     let old = timer_at(nodes, k);
-    let was = size_at(nodes, k);
+    lower_at(nodes, tally, k);
     take_from(nodes, k, is_own, how);
+    raise_at(nodes, tally, k);
     let new = timer_at(nodes, k);
-    let is = size_at(nodes, k);
     retime(timers, k, old, new);
-    *len = recount(*len, was, is);
 }
 
 /// The last node on the walk along a name, and whether this node is the node of the whole name.
@@ -89,21 +92,23 @@ pub struct End {
 
 /// Lets the visitor `how` change or remove the values of the proper prefixes of `name`, the
 /// shortest first, and then the value of `name`. Returns the end of the walk, or `None` if there is
-/// no root. No node is removed, even if the node loses its value.
-pub fn take_along<V: Timed + Drop, T: Take<V>>(
+/// no root. No node is removed, even if the node loses its value. `how` must not raise what a value
+/// counts.
+pub fn take_along<V: Timed + Drop, S: Tally<V>, T: Take<V>>(
     nodes: &mut Slab<Node<V>>,
     root: Option<usize>,
     timers: &mut Timers,
-    len: &mut usize,
+    tally: &mut S,
     name: Name<'_>,
     how: &mut T,
 ) -> Option<End>
     requires sound { Sound (get nodes.old) root }
     requires timed { IsTimed V.timer (get nodes.old) timers.old.timers }
-    requires counted { IsCounted V.size (get nodes.old) root len.old }
+    requires counted { IsCounted S.counts (get nodes.old) root (S.sum tally.old) }
+    requires fewer { (is_own : Bool) → LeavesFewer S.counts (T.left is_own) }
     ensures sound { Sound (get nodes.new) root }
     ensures timed { IsTimed V.timer (get nodes.new) timers.new.timers }
-    ensures counted { IsCounted V.size (get nodes.new) root len.new }
+    ensures counted { IsCounted S.counts (get nodes.new) root (S.sum tally.new) }
     ensures changed { (q : List Field) → lookup (get nodes.new) root q ≡ option_and_then
         (changed_along (T.left true) (T.left false) q (components name.entry))
         (lookup (get nodes.old) root q) }
@@ -126,10 +131,10 @@ pub fn take_along<V: Timed + Drop, T: Take<V>>(
     let mut rest = name.iter();
     while let Some(at) = next {
         let Some(component) = rest.next() else {
-            take_at(nodes, timers, len, at, true, how);
+            take_at(nodes, timers, tally, at, true, how);
             return Some(End { at, is_whole: true });
         };
-        take_at(nodes, timers, len, at, false, how);
+        take_at(nodes, timers, tally, at, false, how);
         end = Some(End {
             at,
             is_whole: false,

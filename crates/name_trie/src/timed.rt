@@ -5,25 +5,21 @@ ghost use Rattle.slab.specs.Slab.{get};
 ghost use Rattle.ndn_tlv.specs.Element.{Field};
 ghost use Rattle.name_trie.specs.Trie.{value as value_in, walk, lookup, table_of, Sound};
 ghost use Rattle.name_trie.specs.Changes.{Turns, Sets, SameLookups, IsBare, IsTidy};
-ghost use Rattle.name_trie.specs.Timed.{timer_at as timer_in, timer_for, stopped, started, IsTimed, size_at as size_in, Recounts, IsCounted};
+ghost use Rattle.name_trie.specs.Timed.{timer_at as timer_in, timer_for, stopped, started, IsTimed, size_at as size_in, HasCounts, Recounts, IsCounted, LeavesFewer};
 
 use crate::becomes::Becomes;
 use crate::change::{Change, change_at, prune_all, take_value};
 use crate::node::{Node, prune, set_value, value_of};
+use crate::tally::{Tally, lower_at, raise_at};
 use slab::Slab;
 use timers::{Timer, Timers};
 
-/// A value with a deadline and a size. `TimedMap::len` is the sum of the sizes of all values.
+/// A value with a deadline.
 pub trait Timed {
     ghost timer: { Self → ℕ };
 
-    ghost size: { Self → ℕ };
-
     fn timer(&self) -> u64
         ensures { result ≡ timer self.now };
-
-    fn size(&self) -> usize
-        ensures { result ≡ size self.now };
 }
 
 /// Returns the deadline of a node's value, or `None` if the node has no value.
@@ -32,24 +28,6 @@ pub fn timer_at<V: Timed>(nodes: &Slab<Node<V>>, k: usize) -> Option<u64>
 {
     let value = value_of(nodes, k)?;
     Some(value.timer())
-}
-
-/// Returns the size of a node's value, or 0 if the node has no value.
-pub fn size_at<V: Timed>(nodes: &Slab<Node<V>>, k: usize) -> usize
-    ensures { result ≡ size_in V.size (get nodes.now) k }
-{
-    match value_of(nodes, k) {
-        Some(value) => value.size(),
-        None => 0,
-    }
-}
-
-/// Returns the new total size if the size of one value changes from `was` to `is`. `len` is the old
-/// total size. The total wraps on overflow, so the total needs no bound.
-pub fn recount(len: usize, was: usize, is: usize) -> usize
-    ensures { Recounts was is len result }
-{
-    len.wrapping_sub(was).wrapping_add(is)
 }
 
 /// Removes the timer of node `key`. `old` is the deadline of this timer, or `None` if there is no
@@ -97,55 +75,58 @@ pub fn retime(timers: &mut Timers, key: usize, old: Option<u64>, new: Option<u64
 }
 
 /// Changes or removes the value of node `k`, if the node has a value, as the rule `how` says.
-/// Updates the timer of this node and the total size `len`.
-pub fn change_timed<V: Timed + Drop, C: Change<V>>(
+/// Updates the timer of this node and the tally. `how` must not raise what a value counts.
+pub fn change_timed<V: Timed + Drop, S: Tally<V>, C: Change<V>>(
     nodes: &mut Slab<Node<V>>,
     timers: &mut Timers,
-    len: &mut usize,
+    tally: &mut S,
     k: usize,
     how: &C,
 )
-    requires { IsTimed V.timer (get nodes.old) timers.old.timers }
+    requires timed { IsTimed V.timer (get nodes.old) timers.old.timers }
+    requires has { HasCounts S.counts (get nodes.old) k (S.sum tally.old) }
+    requires fewer { LeavesFewer S.counts (C.change how.now) }
     ensures turns { Turns k (option_and_then (C.change how.now) (value_in (get nodes.old) k))
         (get nodes.old) (get nodes.new) }
     ensures timed { IsTimed V.timer (get nodes.new) timers.new.timers }
-    ensures counted { Recounts (size_in V.size (get nodes.old) k)
-        (size_in V.size (get nodes.new) k) len.old len.new }
+    ensures counted { Recounts S.counts (get nodes.old) (get nodes.new) k
+        (S.sum tally.old) (S.sum tally.new) }
     ensures timers { timers.new.timers ≡ started k (timer_in V.timer (get nodes.new) k)
         (stopped k (timer_in V.timer (get nodes.old) k) timers.old.timers) }
     ensures few { set.len timers.new.timers ≤ set.len timers.old.timers }
     ensures capacity { timers.old.capacity ≤ timers.new.capacity }
 {
+    tally.stands();
     let old = timer_at(nodes, k);
-    let was = size_at(nodes, k);
+    lower_at(nodes, tally, k);
     change_at(nodes, k, how);
+    raise_at(nodes, tally, k);
     let new = timer_at(nodes, k);
-    let is = size_at(nodes, k);
     retime(timers, k, old, new);
-    *len = recount(*len, was, is);
 }
 
 /// Changes or removes every value whose deadline is `now` or earlier, as the rule `how` says. `how`
-/// must keep all other values unchanged. Each value that `how` returns must have a deadline later
-/// than `now`.
-pub fn expire<V: Timed + Drop, C: Change<V>>(
+/// must keep all other values unchanged, and must not raise what a value counts. Each value that
+/// `how` returns must have a deadline later than `now`.
+pub fn expire<V: Timed + Drop, S: Tally<V>, C: Change<V>>(
     nodes: &mut Slab<Node<V>>,
     root: &mut Option<usize>,
     timers: &mut Timers,
-    len: &mut usize,
+    tally: &mut S,
     kept: Option<usize>,
     now: u64,
     how: &C,
 )
     requires sound { Sound (get nodes.old) root.old }
     requires timed { IsTimed V.timer (get nodes.old) timers.old.timers }
-    requires counted { IsCounted V.size (get nodes.old) root.old len.old }
+    requires counted { IsCounted S.counts (get nodes.old) root.old (S.sum tally.old) }
+    requires fewer { LeavesFewer S.counts (C.change how.now) }
     requires tidy { IsTidy (get nodes.old) kept }
     requires idle { (v : V) → now < V.timer v → C.change how.now v ≡ Some v }
     requires later { (v w : V) → C.change how.now v ≡ Some w → now < V.timer w }
     ensures sound { Sound (get nodes.new) root.new }
     ensures timed { IsTimed V.timer (get nodes.new) timers.new.timers }
-    ensures counted { IsCounted V.size (get nodes.new) root.new len.new }
+    ensures counted { IsCounted S.counts (get nodes.new) root.new (S.sum tally.new) }
     ensures tidy { IsTidy (get nodes.new) kept }
     ensures changed { (q : List Field) → lookup (get nodes.new) root.new q
         ≡ option_and_then (C.change how.now) (lookup (get nodes.old) root.old q) }
@@ -155,7 +136,7 @@ pub fn expire<V: Timed + Drop, C: Change<V>>(
     ensures capacity { timers.old.capacity ≤ timers.new.capacity }
 {
     while let Some(timer) = timers.first_due(now) {
-        change_timed(nodes, timers, len, timer.key, how);
+        change_timed(nodes, timers, tally, timer.key, how);
         prune(nodes, root, timer.key, kept);
     }
 }
@@ -197,12 +178,13 @@ fn put_timed<V: Timed + Drop>(nodes: &mut Slab<Node<V>>, timers: &mut Timers, k:
 }
 
 /// Sets the value of node `k` to the value that the rule `how` computes from the old value of the
-/// node, or from `None` if the node has no value. Updates the timer of the node and the total size
-/// `len`. If the node has no value before the call, memory for one more timer must be reserved.
-pub fn replace_at<V: Timed + Drop, B: Becomes<V> + Drop>(
+/// node, or from `None` if the node has no value. Updates the timer of the node and the tally. If
+/// the node has no value before the call, memory for one more timer must be reserved. The new sums
+/// must fit.
+pub fn replace_at<V: Timed + Drop, S: Tally<V>, B: Becomes<V> + Drop>(
     nodes: &mut Slab<Node<V>>,
     timers: &mut Timers,
-    len: &mut usize,
+    tally: &mut S,
     k: usize,
     how: B,
 )
@@ -210,34 +192,39 @@ pub fn replace_at<V: Timed + Drop, B: Becomes<V> + Drop>(
     requires node { IsSome (get nodes.old k) }
     requires room { value_in (get nodes.old) k ≡ None
         → set.len timers.old.timers < timers.old.capacity }
+    requires has { HasCounts S.counts (get nodes.old) k (S.sum tally.old) }
+    requires fits { (sums : S.Index → ℕ)
+        → ((i : S.Index) → sums i + size_in (S.counts i) (get nodes.old) k
+        ≡ S.sum tally.old i + S.counts i (B.becomes how (value_in (get nodes.old) k)))
+        → S.Fits sums }
     ensures turns { Turns k (Some (B.becomes how (value_in (get nodes.old) k)))
         (get nodes.old) (get nodes.new) }
     ensures timed { IsTimed V.timer (get nodes.new) timers.new.timers }
-    ensures counted { Recounts (size_in V.size (get nodes.old) k)
-        (size_in V.size (get nodes.new) k) len.old len.new }
+    ensures counted { Recounts S.counts (get nodes.old) (get nodes.new) k
+        (S.sum tally.old) (S.sum tally.new) }
 {
-    let was = size_at(nodes, k);
+    lower_at(nodes, tally, k);
     let old = take_timed(nodes, timers, k);
     put_timed(nodes, timers, k, how.apply(old));
-    let is = size_at(nodes, k);
-    *len = recount(*len, was, is);
+    raise_at(nodes, tally, k);
 }
 
-/// Changes or removes each value, as the rule `how` says.
-pub fn change_all_timed<V: Timed + Drop, C: Change<V>>(
+/// Changes or removes each value, as the rule `how` says. `how` must not raise what a value counts.
+pub fn change_all_timed<V: Timed + Drop, S: Tally<V>, C: Change<V>>(
     nodes: &mut Slab<Node<V>>,
     root: &mut Option<usize>,
     timers: &mut Timers,
-    len: &mut usize,
+    tally: &mut S,
     kept: Option<usize>,
     how: &C,
 )
     requires sound { Sound (get nodes.old) root.old }
     requires timed { IsTimed V.timer (get nodes.old) timers.old.timers }
-    requires counted { IsCounted V.size (get nodes.old) root.old len.old }
+    requires counted { IsCounted S.counts (get nodes.old) root.old (S.sum tally.old) }
+    requires fewer { LeavesFewer S.counts (C.change how.now) }
     ensures sound { Sound (get nodes.new) root.new }
     ensures timed { IsTimed V.timer (get nodes.new) timers.new.timers }
-    ensures counted { IsCounted V.size (get nodes.new) root.new len.new }
+    ensures counted { IsCounted S.counts (get nodes.new) root.new (S.sum tally.new) }
     ensures tidy { IsTidy (get nodes.new) kept }
     ensures changed { (q : List Field) → lookup (get nodes.new) root.new q
         ≡ option_and_then (C.change how.now) (lookup (get nodes.old) root.old q) }
@@ -247,7 +234,7 @@ pub fn change_all_timed<V: Timed + Drop, C: Change<V>>(
     ensures capacity { timers.old.capacity ≤ timers.new.capacity }
 {
     for k in 0..nodes.capacity() {
-        change_timed(nodes, timers, len, k, how);
+        change_timed(nodes, timers, tally, k, how);
     }
     prune_all(nodes, root, kept);
 }

@@ -1,4 +1,4 @@
-ghost use Rattle.std.specs.Prelude.{◌≡◌, ◌<◌, ◌≤◌, ◌^◌, ℕ, List, [], ◌∷◌, ◌++◌, true, false, None, Some, IsSome, IsOk, OnOk, OnErr, option_and_then};
+ghost use Rattle.std.specs.Prelude.{◌≡◌, ◌<◌, ◌≤◌, ℕ, Bool, List, [], ◌∷◌, ◌++◌, true, false, None, Some, IsSome, IsOk, OnOk, OnErr, option_and_then};
 ghost use Rattle.std.specs.Option.{option_map};
 ghost use Rattle.std.specs.FinMap as map;
 ghost use Rattle.ndn_tlv.specs.Element.{Field};
@@ -6,6 +6,7 @@ ghost use Rattle.ndn_names.specs.View.{components, field_of};
 ghost use Rattle.name_trie.specs.ByName.{revise, with_value};
 ghost use Rattle.name_trie.specs.Flat.{total};
 ghost use Rattle.name_trie.specs.Taken.{taken, taken_along, changed_along};
+ghost use Rattle.name_trie.specs.Timed.{LeavesFewer};
 
 use crate::becomes::Becomes;
 use crate::change::Change;
@@ -13,6 +14,7 @@ use crate::held::{held_node, hold, node_held, node_of, place_for, release, relea
 use crate::look::{Look, look_along};
 use crate::node::{Node, child_of, find, has_child_up_to, prune, value_of};
 use crate::take::{Take, take_along, take_at};
+use crate::tally::Tally;
 use crate::timed::{Timed, change_all_timed, change_timed, expire, replace_at};
 use ndn_names::{Component, Name, NameBuf};
 use ndn_tlv::Memory;
@@ -21,9 +23,9 @@ use std::alloc::Global;
 use std::marker::Model;
 use timers::Timers;
 
-/// A map from names to values with deadlines.
+/// A map from names to values with deadlines, and a tally of the values.
 #[derive(Drop)]
-pub struct TimedMap<V: Timed> {
+pub struct TimedMap<V: Timed, S: Tally<V>> {
     alloc: Global,
     nodes: Slab<Node<V>>,
     root: Option<usize>,
@@ -37,11 +39,11 @@ pub struct TimedMap<V: Timed> {
     // The timers, one for each value. While a call is prepared, memory is reserved for one more
     // timer.
     timers: Timers,
-    // The total size of all values, modulo 2^64.
-    len: usize,
+    // The sums over all values.
+    tally: S,
 }
 
-impl<V: Timed> Model for TimedMap<V> {
+impl<V: Timed, S: Tally<V>> Model for TimedMap<V, S> {
     ghost use Rattle.std.specs.Prelude.{option_map, cond, None};
     ghost use Rattle.slab.specs.Slab.{get};
     ghost use Rattle.name_trie.specs.NameTable.{NameTable, name_table_code};
@@ -62,11 +64,11 @@ impl<V: Timed> Model for TimedMap<V> {
         × IsTidy (get m.nodes) (option_map (λ p. p.1) m.held)
         × IsTimed V.timer (get m.nodes) m.timers.timers
         × HasTimerRoom m.is_ready m.timers
-        × IsCounted V.size (get m.nodes) m.root m.len };
+        × IsCounted S.counts (get m.nodes) m.root (S.sum m.tally) };
 }
 
-impl<V: Timed + Drop> TimedMap<V> {
-    pub fn new(alloc: Global) -> TimedMap<V>
+impl<V: Timed + Drop, S: Tally<V>> TimedMap<V, S> {
+    pub fn new(alloc: Global) -> TimedMap<V, S>
         ensures table { result.table ≡ map.empty }
         ensures prepared { result.prepared ≡ None }
     {
@@ -77,16 +79,16 @@ impl<V: Timed + Drop> TimedMap<V> {
             held: None,
             is_ready: false,
             timers: Timers::new(alloc),
-            len: 0,
+            tally: S::new(),
         }
     }
 
-    /// Returns the total size of all values, which must be less than 2^64.
-    pub fn len(&self) -> usize
-        requires { total V.size (map.entries self.now.table) < 2 ^ 64 }
-        ensures { result ≡ total V.size (map.entries self.now.table) }
+    /// Returns the sums over all values.
+    pub fn tally(&self) -> &S
+        ensures { (i : S.Index) → S.sum result.now i
+            ≡ total (S.counts i) (map.entries self.now.table) }
     {
-        self.len
+        &self.tally
     }
 
     /// Returns the value of a name, or `None` if the name has no value.
@@ -130,8 +132,11 @@ impl<V: Timed + Drop> TimedMap<V> {
     }
 
     /// Sets the value of `name` to the value that the rule `how` computes from the old value of
-    /// `name`, or from `None` if `name` has no value.
+    /// `name`, or from `None` if `name` has no value. The sums over all values must then fit.
     pub fn put_with<B: Becomes<V> + Drop>(&mut self, name: Name<'_>, how: B) -> Result<(), Memory>
+        requires { S.Fits (λ i. total (S.counts i) (map.entries (map.insert self.old.table
+            (components name)
+            (B.becomes how (map.get self.old.table (components name)))))) }
         ensures ok { OnOk result (self.new.table ≡ map.insert self.old.table
             (components name.entry)
             (B.becomes how (map.get self.old.table (components name.entry)))) }
@@ -151,7 +156,7 @@ impl<V: Timed + Drop> TimedMap<V> {
             &self.held,
             name,
         )?;
-        replace_at(&mut self.nodes, &mut self.timers, &mut self.len, k, how);
+        replace_at(&mut self.nodes, &mut self.timers, &mut self.tally, k, how);
         Ok(())
     }
 
@@ -178,9 +183,10 @@ impl<V: Timed + Drop> TimedMap<V> {
     }
 
     /// Changes or removes every value whose deadline is `now` or earlier, as the rule `how` says.
-    /// `how` must keep all other values unchanged. Each value that `how` returns must have a
-    /// deadline later than `now`.
+    /// `how` must keep all other values unchanged, and must not raise what a value counts. Each
+    /// value that `how` returns must have a deadline later than `now`.
     pub fn expire<C: Change<V>>(&mut self, now: u64, how: &C)
+        requires fewer { LeavesFewer S.counts (C.change how.now) }
         requires idle { (v : V) → now < V.timer v → C.change how.now v ≡ Some v }
         requires later { (v w : V) → C.change how.now v ≡ Some w → now < V.timer w }
         ensures table { self.new.table ≡ revise (C.change how.now) self.old.table }
@@ -191,15 +197,17 @@ impl<V: Timed + Drop> TimedMap<V> {
             &mut self.nodes,
             &mut self.root,
             &mut self.timers,
-            &mut self.len,
+            &mut self.tally,
             kept,
             now,
             how,
         );
     }
 
-    /// Changes or removes each value, as the rule `how` says.
+    /// Changes or removes each value, as the rule `how` says. `how` must not raise what a value
+    /// counts.
     pub fn change_all<C: Change<V>>(&mut self, how: &C)
+        requires { LeavesFewer S.counts (C.change how.now) }
         ensures table { self.new.table ≡ revise (C.change how.now) self.old.table }
         ensures prepared { self.new.prepared ≡ self.old.prepared }
     {
@@ -208,14 +216,16 @@ impl<V: Timed + Drop> TimedMap<V> {
             &mut self.nodes,
             &mut self.root,
             &mut self.timers,
-            &mut self.len,
+            &mut self.tally,
             kept,
             how,
         );
     }
 
     /// Changes or removes the value of `name`, if this name has a value, as the rule `how` says.
+    /// `how` must not raise what a value counts.
     pub fn change<C: Change<V>>(&mut self, name: Name<'_>, how: &C)
+        requires { LeavesFewer S.counts (C.change how.now) }
         ensures table { self.new.table ≡ with_value self.old.table (components name.entry)
             (option_and_then (C.change how.now) (map.get self.old.table (components name.entry))) }
         ensures prepared { self.new.prepared ≡ self.old.prepared }
@@ -224,15 +234,17 @@ impl<V: Timed + Drop> TimedMap<V> {
             return;
         };
         let kept = held_node(&self.held);
-        change_timed(&mut self.nodes, &mut self.timers, &mut self.len, k, how);
+        change_timed(&mut self.nodes, &mut self.timers, &mut self.tally, k, how);
         prune(&mut self.nodes, &mut self.root, k, kept);
     }
 
     /// Lets the visitor `how` change or remove the values of the proper prefixes of `name`, the
     /// shortest first, and then the value of `name`, all in one walk. Returns whether some
     /// extension of `name` by one component with a type number of at most `kind` may have a value.
-    /// If the result is false, no such extension has a value.
+    /// If the result is false, no such extension has a value. `how` must not raise what a value
+    /// counts.
     pub fn take_along<T: Take<V>>(&mut self, name: Name<'_>, kind: u16, how: &mut T) -> bool
+        requires { (is_own : Bool) → LeavesFewer S.counts (T.left is_own) }
         ensures changed { (q : List Field) → map.get self.new.table q ≡ option_and_then
             (changed_along (T.left true) (T.left false) q (components name.entry))
             (map.get self.old.table q) }
@@ -246,7 +258,7 @@ impl<V: Timed + Drop> TimedMap<V> {
             &mut self.nodes,
             self.root,
             &mut self.timers,
-            &mut self.len,
+            &mut self.tally,
             name,
             how,
         ) else {
@@ -259,8 +271,10 @@ impl<V: Timed + Drop> TimedMap<V> {
     }
 
     /// Lets the visitor `how` change or remove the value of the name that extends `name` by
-    /// `component`. The visitor is called with `is_own` set to true.
+    /// `component`. The visitor is called with `is_own` set to true, and must not raise what a
+    /// value counts.
     pub fn take_below<T: Take<V>>(&mut self, name: Name<'_>, component: Component<'_>, how: &mut T)
+        requires { LeavesFewer S.counts (T.left true) }
         ensures table { self.new.table ≡ with_value self.old.table
             (components name.entry ++ field_of component.entry ∷ [])
             (option_and_then (T.left true) (map.get self.old.table
@@ -279,7 +293,7 @@ impl<V: Timed + Drop> TimedMap<V> {
         take_at(
             &mut self.nodes,
             &mut self.timers,
-            &mut self.len,
+            &mut self.tally,
             k,
             true,
             how,

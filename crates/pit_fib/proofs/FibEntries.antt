@@ -116,10 +116,10 @@ some_passed true o some = some
 some_passed false o some = absurd cc
 
 module _ (face : ℕ) where
-  abbrev other : RouteKey → Bool
+  abbrev pub other : RouteKey → Bool
   other k = not (k.face == face)
 
-  alike : (q x : RouteKey) → route_cmp q x ≡ Equal → other x ≡ other q
+  pub alike : (q x : RouteKey) → route_cmp q x ≡ Equal → other x ≡ other q
   alike q x tie = ap other (sym (route_cmp-antisymmetric q x tie))
 
   -- removing the routes of a face does not increase the number of routes

@@ -58,17 +58,17 @@ entry_is t q e is = ap (λ o. unwrap_or o no_entry) is
 
 -- if `A` is true whenever some entry of the table has a next hop or a route on the face `f`, then
 -- `A` follows from `LeadsTo t f`
-leads_by : {A : Type 0} (t : Routes) (f : ℕ) → ((q : List Field) (e : Entry) → get t q ≡ Some e → EntryLeads e f → A) → LeadsTo t f → A
+pub leads_by : {A : Type 0} (t : Routes) (f : ℕ) → ((q : List Field) (e : Entry) → get t q ≡ Some e → EntryLeads e f → A) → LeadsTo t f → A
 leads_by {A} t f by way =
     elim (get t way.0) as (λ o. get t way.0 ≡ o → EntryLeads (unwrap_or o no_entry) f → A) [
       | None ↦ λ e l. leads_nowhere f l
       | (Some x) ↦ λ e l. by way.0 x e l
     ] refl way.1
 
-leads_at : (t : Routes) (q : List Field) (e : Entry) (f : ℕ) → get t q ≡ Some e → EntryLeads e f → LeadsTo t f
+pub leads_at : (t : Routes) (q : List Field) (e : Entry) (f : ℕ) → get t q ≡ Some e → EntryLeads e f → LeadsTo t f
 leads_at t q e f is l = (q, subst (λ x. EntryLeads x f) (sym (entry_is t q e is)) l)
 
-shrunk_leads : (t new : Routes) → IsShrunk t new → (f : ℕ) → LeadsTo new f → LeadsTo t f
+pub shrunk_leads : (t new : Routes) → IsShrunk t new → (f : ℕ) → LeadsTo new f → LeadsTo t f
 shrunk_leads t new shrunk f = leads_by new f (λ q e is l. let s = shrunk q e is in leads_at t q s.0 f s.1 (s.2.leads f l))
 
 pub shrunk_within : (t new : Routes) → IsWithinFib t → IsShrunk t new → IsWithinLimits new → route_count new ≤ route_count t → IsWithinFib new
@@ -215,7 +215,7 @@ shrunk_room t new room (Some q) shrunk fits = (let fewer = fewer_there t new shr
 -- ---- the table after one entry is set
 
 module _ (t : Routes) (within : IsWithinFib t) (name : List Field) (e : Entry) where
-  leads_set : {A : Type 0} (f : ℕ) → (EntryLeads e f → EntryLeads (entry_at t name) f ⊎ A) → LeadsTo (insert t name e) f → LeadsTo t f ⊎ A
+  pub leads_set : {A : Type 0} (f : ℕ) → (EntryLeads e f → EntryLeads (entry_at t name) f ⊎ A) → LeadsTo (insert t name e) f → LeadsTo t f ⊎ A
   leads_set {A} f more = leads_by (insert t name e) f (λ q x is l.
       elim (eq_by_cmp name_cmp q name) as (λ b. cond b (Some e) (get t q) ≡ Some x → LeadsTo t f ⊎ A) [
         | true ↦ λ g.

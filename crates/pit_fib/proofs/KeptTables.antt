@@ -73,7 +73,7 @@ length_kept : {K X Y : Type 0} (f : X → Y) (es : List (K × X)) → length (re
 length_kept f [] = refl
 length_kept f (e ∷ es) = ap (λ (n : ℕ). suc n) (length_kept f es)
 
-entries-shown : (m : FinMap key_cmp Kept) → entries (revise (λ s. Some s.records) m) ≡ revised (λ s. Some s.records) (entries m)
+pub entries-shown : (m : FinMap key_cmp Kept) → entries (revise (λ s. Some s.records) m) ≡ revised (λ s. Some s.records) (entries m)
 unfolding revise
 entries-shown m = entries-from_sorted key_cmp (revised (λ s. Some s.records) (entries m)) (sorted_revised key_cmp (λ s. Some s.records) (entries m) (map.entries_sorted m))
 

@@ -39,3 +39,6 @@ pub mod FibShown
 pub mod Effective
 pub mod LongestRoutes
 pub mod SameNames
+pub mod RecordTallies
+pub mod NewRecords
+pub mod Leading

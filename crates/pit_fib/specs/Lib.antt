@@ -20,6 +20,9 @@ pub mod Flags
 pub mod Faced
 pub mod Kept
 pub mod Last
+pub mod RecordTally
+pub mod Led
+pub mod Laws
 pub mod Prepared
 pub use Rattle.name_trie.specs.ByName
 pub use Rattle.name_trie.specs.NameTable

@@ -13,6 +13,7 @@ use Rattle.pit_fib.specs.declared.nacked.Nacked.TheVariants.{NoPending, Waiting,
 use Rattle.pit_fib.specs.FaceSet.{AtMost64}
 use Rattle.pit_fib.specs.Tables.{ByFace}
 use Rattle.name_trie.specs.ByName.{revise}
+use Rattle.name_trie.specs.Flat.{total}
 use Rattle.pit_fib.specs.Records.{InRecord, OutRecord, OutRecords, Records, Pending, records_at, records_code, same_nonce}
 use Rattle.pit_fib.specs.Cause.{with_reason}
 
@@ -38,6 +39,11 @@ abbrev pub HasRecord : Pending → ℕ → Type 0
 HasRecord pending face =
     (key : PlainKey) × (IsSome (map.get (records_at pending key).in_records face)
     ⊎ IsSome (map.get (records_at pending key).out_records face))
+
+-- the number of keys under which the face has an in-record
+abbrev pub record_count : Pending → ℕ → ℕ
+record_count pending face =
+    total (λ r. if map.contains_key r.in_records face then 1 else 0) (map.entries pending)
 
 -- at most 64 different faces have a record, or are equal to `face`
 abbrev pub HasRoomFor : Pending → ℕ → Type 0

@@ -1,21 +1,24 @@
-ghost use Rattle.std.specs.Prelude.{◌≡◌, ◌≤◌, ◌||◌, ◌&&◌, ◌==◌, IfSome, length, not, min};
+ghost use Rattle.std.specs.Prelude.{◌≡◌, ◌+◌, ◌<◌, ◌≤◌, ◌^◌, ℕ, ◌||◌, ◌&&◌, ◌==◌, IfSome, length, not, min};
 ghost use Rattle.std.specs.List.{list_any};
 ghost use Rattle.std.specs.Option.{option_map, option_and_then};
 ghost use Rattle.std.specs.FinMap as map;
 ghost use Rattle.pit_fib.specs.declared.face_set.TheConstants.{MAX_FACES};
 ghost use Rattle.pit_fib.specs.declared.room.TheConstants.{FEW};
+ghost use Rattle.pit_fib.specs.FaceSet.{AtMost64};
 ghost use Rattle.pit_fib.specs.Faced.{has_place};
 ghost use Rattle.pit_fib.specs.Records.{is_alive, same_nonce};
 ghost use Rattle.pit_fib.specs.Cause.{sent_at, nacked_with, with_reason};
 ghost use Rattle.pit_fib.specs.Kept.{with_in_record, deadline, expired, interest_in, lesser, living, nacked, new_in, kept_out_records, sent_in, token_in, with_faces_of, with_asking, withdrawn, without_face};
 ghost use Rattle.pit_fib.specs.Pit.{all_nacked, least_reason, loops as loops_in, moments as moments_of, was_sent};
 ghost use Rattle.pit_fib.specs.Last.{ask_in, later};
+ghost use Rattle.pit_fib.specs.RecordTally.{ArePositive, asks_once, number};
 ghost use Rattle.name_trie.specs.Least.{least};
 
 use crate::by_face::Used;
 use crate::face_map::FaceMap;
 use crate::face_set::Faces;
 use crate::nacked::Nacked;
+use crate::record_tally::{lower_each, raise_each};
 use crate::room::Room;
 use std::marker::Model;
 
@@ -460,5 +463,31 @@ fn add_faces_of(rows: &[(u64, InRecord)], faces: &mut Faces)
 {
     for row in rows {
         faces.insert(row.0);
+    }
+}
+
+/// Adds 1 to the number of each face that has an in-record in the entry, if there is an entry.
+pub fn raise_faces(entry: &Option<Entry>, faces: &mut Used)
+    requires positive { ArePositive faces.old }
+    requires small { (f : ℕ) → number faces.old f + asks_once entry.now f < 2 ^ 64 }
+    requires room { AtMost64 (λ f. 0 < number faces.old f + asks_once entry.now f) }
+    ensures positive { ArePositive faces.new }
+    ensures raised { (f : ℕ) → number faces.new f ≡ number faces.old f + asks_once entry.now f }
+{
+    if let Some(entry) = entry {
+        raise_each(entry.in_records.rows(), faces);
+    }
+}
+
+/// Subtracts 1 from the number of each face that has an in-record in the entry, if there is an
+/// entry. These numbers must not be 0.
+pub fn lower_faces(entry: &Option<Entry>, faces: &mut Used)
+    requires positive { ArePositive faces.old }
+    requires some { (f : ℕ) → asks_once entry.now f ≤ number faces.old f }
+    ensures positive { ArePositive faces.new }
+    ensures lowered { (f : ℕ) → number faces.new f + asks_once entry.now f ≡ number faces.old f }
+{
+    if let Some(entry) = entry {
+        lower_each(entry.in_records.rows(), faces);
     }
 }

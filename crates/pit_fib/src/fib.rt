@@ -1,4 +1,4 @@
-ghost use Rattle.std.specs.Prelude.{◌≡◌, ◌≢◌, ◌+◌, ◌-◌, ◌^◌, ◌<◌, ◌≤◌, [], length, vec_len, None, Some, Err, IsSome, IsTrue, IsOk, IfOk, IfErr, OnOk, OnErr, MatchOption};
+ghost use Rattle.std.specs.Prelude.{◌≡◌, ◌≢◌, false, ◌+◌, ◌-◌, ◌^◌, ◌<◌, ◌≤◌, [], length, vec_len, None, Some, Err, IsSome, IsTrue, IsOk, IfOk, IfErr, OnOk, OnErr, MatchOption};
 ghost use Rattle.std.specs.FinMap as map;
 ghost use Rattle.std.specs.Vec.{vec_capacity};
 ghost use Rattle.ndn_names.specs.View.{components};
@@ -18,6 +18,7 @@ use crate::fib_entry::{
 };
 use crate::hops::{Hops, hops_in_order};
 use crate::inheriting::Inheriting;
+use crate::led::Led;
 use crate::listing::{AsHops, AtName};
 use crate::route::{Route, RouteKey};
 use crate::tally::{Left, Tally, sooner};
@@ -51,12 +52,15 @@ pub struct Fib {
     count: usize,
     // No route expires before this moment, in milliseconds since 1970.
     next_due: u64,
+    // The faces that may have next hops or routes.
+    led: Led,
 }
 
 impl Model for Fib {
     ghost use Rattle.std.specs.Vec.{vec_capacity};
     ghost use Rattle.name_trie.specs.NameTable.{NameTable, name_table_code};
     ghost use Rattle.pit_fib.specs.Fib.{Entry as PlainEntry, entry_code};
+    ghost use Rattle.pit_fib.specs.Led.{KnowsLed};
     ghost use Rattle.pit_fib.specs.Limits.{HasRouteRoom, IsTallied, IsWithinFib};
 
     ghost Value = { NameTable PlainEntry };
@@ -67,7 +71,7 @@ impl Model for Fib {
 
     ghost invariant = { λ f. IsWithinFib f.entries.table
         × IsTallied f.entries.table f.count f.next_due
-        × HasRouteRoom f.entries (vec_capacity f.room) };
+        × HasRouteRoom f.entries (vec_capacity f.room) × KnowsLed f.led f.entries.table };
 }
 
 impl Fib {
@@ -82,7 +86,17 @@ impl Fib {
             room: Vec::new(alloc),
             count: 0,
             next_due: u64::MAX,
+            led: Led::new(),
         }
+    }
+
+    /// Returns whether the face may have next hops or routes. If the result is false, the face has
+    /// neither. The result is true if the face was given a next hop or a route since it was last
+    /// closed (`close_face`), and if more than 64 faces were.
+    pub fn may_lead_to(&self, face: u64) -> bool
+        ensures { result ≡ false → LeadsTo self.now.table face → ⊥ }
+    {
+        self.led.contains(face)
     }
 
     /// Returns the number of names. The contract clause `exact` gives this number. Each of the
@@ -123,6 +137,7 @@ impl Fib {
         }
         let alloc = self.alloc;
         self.entries.put_with(name, WithHop { alloc, face, cost })?;
+        self.led.add(face);
         Ok(())
     }
 
@@ -255,6 +270,7 @@ impl Fib {
         ensures prepared { self.new.prepared ≡ self.old.prepared }
     {
         self.entries.change_all(&WithoutFace { face });
+        self.led.remove(face);
         let tally = tally(&self.entries);
         self.count = tally.count;
         self.next_due = tally.next_due;
@@ -410,6 +426,7 @@ impl Fib {
             room,
         };
         self.entries.put_with(name, how)?;
+        self.led.add(key.face);
         self.count += usize::from(is_new);
         self.next_due = sooner(self.next_due, route.deadline);
         Ok(())

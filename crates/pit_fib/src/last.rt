@@ -8,8 +8,9 @@ ghost use Rattle.ndn_names.specs.View.{components};
 ghost use Rattle.pit_fib.specs.Last.{last_along, last_of};
 
 use crate::entry::InRecord;
+use crate::record_tally::Rows;
 use crate::row::Row;
-use name_trie::{Look, TimedMap};
+use name_trie::Look;
 use ndn_names::component_type::IMPLICIT_SHA256_DIGEST;
 use ndn_names::{Component, Name};
 use ndn_packets::Data;
@@ -50,7 +51,7 @@ impl<'a> Look<'a, Row> for LastOf<'a> {
 /// keys: the keys of `name`, and those keys with CanBePrefix whose name is a proper prefix of
 /// `name`. If several of these in-records have the latest deadline, returns the one under the
 /// greatest key.
-fn last_along<'a>(rows: &'a TimedMap<Row>, name: Name<'_>, face: u64) -> Option<&'a InRecord>
+fn last_along<'a>(rows: &'a Rows, name: Name<'_>, face: u64) -> Option<&'a InRecord>
     ensures { option_map (λ r. r.now) result
         ≡ last_along rows.now.table face (components name.entry) }
 {
@@ -63,7 +64,7 @@ fn last_along<'a>(rows: &'a TimedMap<Row>, name: Name<'_>, face: u64) -> Option<
 /// If several of these in-records have the latest deadline, returns the one under the greatest key.
 /// The Data's digest is computed only if the name of some key may be the Data's name followed by a
 /// digest component (`TimedMap::has_below`).
-pub fn last_for<'a>(rows: &'a TimedMap<Row>, packet: &Data<'_>, face: u64) -> Option<&'a InRecord>
+pub fn last_for<'a>(rows: &'a Rows, packet: &Data<'_>, face: u64) -> Option<&'a InRecord>
     ensures { option_map (λ r. r.now) result ≡ last_of rows.now.table face
         (components packet.now.name) (sha256 packet.now.whole.now) }
 {

@@ -11,7 +11,7 @@ ghost use Rattle.pit_fib.specs.FaceSet.{AtMost64, IsRising, has_face};
 ghost use Rattle.pit_fib.specs.Records.{HoldsTheLiving, is_alive, records_at};
 ghost use Rattle.pit_fib.specs.Cause.{Expires, Arrives, SentTo, Satisfied, NackCame, Withdrawn, Removed, Closed, Follows};
 ghost use Rattle.pit_fib.specs.Kept.{answer_in, has_place_in, kept_at, was_sent_in, with_answered};
-ghost use Rattle.pit_fib.specs.Pit.{HasRecord, HasRoomFor, WaitsFor, loops as loops_in, moments, nacked_answer, token_len};
+ghost use Rattle.pit_fib.specs.Pit.{HasRecord, HasRoomFor, WaitsFor, loops as loops_in, moments, nacked_answer, record_count, token_len};
 ghost use Rattle.pit_fib.specs.Tokens.{HaveNoTokens, IsTokenFor};
 
 use crate::arrival::{Arrival, Departure};
@@ -24,10 +24,10 @@ use crate::flags::Flags;
 use crate::last::last_for;
 use crate::nacked::Nacked;
 use crate::prepared::{Prepared, after_sending, arriving, in_record_and_room};
+use crate::record_tally::Rows;
 use crate::revisions::{Closing, Expiry, NackOf, Removal, Withdrawal};
 use crate::room::Room;
 use crate::row::{Row, RowRevision};
-use name_trie::TimedMap;
 use ndn_names::component_type::IMPLICIT_SHA256_DIGEST;
 use ndn_names::{Component, Name};
 use ndn_packets::{Data, Key};
@@ -47,7 +47,7 @@ pub const MAX_PENDING: usize = MAX_ENTRIES;
 pub struct Pit {
     alloc: Global,
     // The rows by name, also kept in order of their least deadlines.
-    rows: TimedMap<Row>,
+    rows: Rows,
     prepared: Option<Prepared>,
     // Spare memory for the out-records of an entry whose own memory is full.
     spare: Room<OutRecord>,
@@ -83,7 +83,7 @@ impl Pit {
     {
         Pit {
             alloc,
-            rows: TimedMap::new(alloc),
+            rows: Rows::new(alloc),
             prepared: None,
             spare: Room::none(alloc),
             has_tokens: false,
@@ -98,7 +98,15 @@ impl Pit {
         ensures few { AtMost64 (HasRecord self.now.pending) }
         ensures bounded { map.len self.now.pending ≤ MAX_PENDING }
     {
-        self.rows.len()
+        self.rows.tally().keys()
+    }
+
+    /// Returns the number of keys under which a face has an in-record.
+    pub fn records_of(&self, face: u64) -> u64
+        ensures exact { result ≡ record_count self.now.pending face }
+        ensures bounded { result ≤ MAX_PENDING }
+    {
+        self.rows.tally().records_of(face)
     }
 
     /// Returns whether no Interest is pending.
@@ -202,7 +210,7 @@ impl Pit {
             ↔ ((is_alive (records_at self.now.pending (plain_key key.entry)) ≡ false)
             × (MAX_PENDING ≤ map.len self.now.pending)) }
     {
-        self.rows.len() >= MAX_PENDING && entry_of(&self.rows, key).is_none()
+        self.rows.tally().keys() >= MAX_PENDING && entry_of(&self.rows, key).is_none()
     }
 
     /// Records the Interest of a face. The key must be in the table, or the table must have fewer
@@ -478,7 +486,7 @@ impl Pit {
 }
 
 /// Returns the entry of a key, or `None` if the key has no entry.
-fn entry_of<'a>(rows: &'a TimedMap<Row>, key: Key<'_>) -> Option<&'a Entry>
+fn entry_of<'a>(rows: &'a Rows, key: Key<'_>) -> Option<&'a Entry>
     ensures { option_map (λ e. e.now) result ≡ kept_at rows.now.table (plain_key key.entry) }
 {
     rows.get(key.name)?.get(Flags::of(key))
@@ -499,7 +507,7 @@ fn add_of(row: Option<&Row>, is_own: bool, faces: &mut Faces)
 }
 
 /// Returns whether the face has an out-record with this Nonce under this key.
-fn was_sent(rows: &TimedMap<Row>, key: Key<'_>, face: u64, nonce: [u8; 4]) -> bool
+fn was_sent(rows: &Rows, key: Key<'_>, face: u64, nonce: [u8; 4]) -> bool
     ensures { result ≡ was_sent_in (kept_at rows.now.table (plain_key key.entry)) face nonce }
 {
     match entry_of(rows, key) {
@@ -510,7 +518,7 @@ fn was_sent(rows: &TimedMap<Row>, key: Key<'_>, face: u64, nonce: [u8; 4]) -> bo
 
 /// Returns whether the own memory of the key's entry suffices for an out-record of this face
 /// (`Entry::has_place_for`), or true if the key has no entry.
-fn has_place_for(rows: &TimedMap<Row>, key: Key<'_>, face: u64) -> bool
+fn has_place_for(rows: &Rows, key: Key<'_>, face: u64) -> bool
     ensures { result ≡ has_place_in (kept_at rows.now.table (plain_key key.entry)) face }
 {
     match entry_of(rows, key) {
@@ -522,7 +530,7 @@ fn has_place_for(rows: &TimedMap<Row>, key: Key<'_>, face: u64) -> bool
 /// Returns `NoPending` if the key has no entry, and `Waiting` if some out-record of the key has no
 /// reason. Otherwise returns `All` with the least number among `reason` and the reasons in the
 /// key's out-records.
-fn answer_of(rows: &TimedMap<Row>, key: Key<'_>, reason: u64) -> Nacked
+fn answer_of(rows: &Rows, key: Key<'_>, reason: u64) -> Nacked
     ensures { result ≡ answer_in (kept_at rows.now.table (plain_key key.entry)) reason }
 {
     match entry_of(rows, key) {

@@ -1,9 +1,12 @@
-ghost use Rattle.std.specs.Prelude.{◌≡◌, None, Some, Option, IfOk, unwrap_or};
+ghost use Rattle.std.specs.Prelude.{◌≡◌, ◌+◌, ◌<◌, ◌≤◌, ◌^◌, ℕ, None, Some, Option, IfOk, unwrap_or};
 ghost use Rattle.std.specs.Option.{option_map};
 ghost use Rattle.std.specs.FinMap as map;
 ghost use Rattle.pit_fib.specs.Kept.{changed_row, with_answered};
+ghost use Rattle.pit_fib.specs.FaceSet.{AtMost64};
 ghost use Rattle.pit_fib.specs.Last.{last_in};
+ghost use Rattle.pit_fib.specs.RecordTally.{ArePositive, counts, number};
 
+use crate::by_face::Used;
 use crate::entry::{Entry, InRecord};
 use crate::face_set::Faces;
 use crate::flags::Flags;
@@ -61,6 +64,43 @@ impl Row {
         self.slots.as_ref()?.get(flags)
     }
 
+    /// Returns how many keys of the name have an entry.
+    pub fn count(&self) -> usize
+        ensures { result ≡ map.len self.now }
+    {
+        match &self.slots {
+            Some(slots) => slots.count(),
+            None => 0,
+        }
+    }
+
+    /// Adds the number of in-records that each face has under the keys of the name.
+    pub fn raise(&self, faces: &mut Used)
+        requires positive { ArePositive faces.old }
+        requires small { (f : ℕ) → number faces.old f + counts (Some f) self.now < 2 ^ 64 }
+        requires room { AtMost64 (λ f. 0 < number faces.old f + counts (Some f) self.now) }
+        ensures positive { ArePositive faces.new }
+        ensures raised { (f : ℕ) → number faces.new f
+            ≡ number faces.old f + counts (Some f) self.now }
+    {
+        if let Some(slots) = &self.slots {
+            slots.raise(faces);
+        }
+    }
+
+    /// Subtracts the number of in-records that each face has under the keys of the name.
+    pub fn lower(&self, faces: &mut Used)
+        requires positive { ArePositive faces.old }
+        requires some { (f : ℕ) → counts (Some f) self.now ≤ number faces.old f }
+        ensures positive { ArePositive faces.new }
+        ensures lowered { (f : ℕ) → number faces.new f + counts (Some f) self.now
+            ≡ number faces.old f }
+    {
+        if let Some(slots) = &self.slots {
+            slots.lower(faces);
+        }
+    }
+
     /// Applies the revision `how` to each entry, and returns the row. Returns `None` if no entry is
     /// left.
     pub fn revised<R: Revision>(self, how: &R) -> Option<Row>
@@ -115,18 +155,9 @@ impl Timed for Row {
 
     ghost timer = { λ row. least deadline (map.entries row) };
 
-    ghost size = { λ row. map.len row };
-
     fn timer(&self) -> u64 {
         match &self.slots {
             Some(slots) => slots.deadline(),
-            None => 0,
-        }
-    }
-
-    fn size(&self) -> usize {
-        match &self.slots {
-            Some(slots) => slots.count(),
             None => 0,
         }
     }

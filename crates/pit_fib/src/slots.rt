@@ -1,11 +1,16 @@
-ghost use Rattle.std.specs.Prelude.{◌≡◌, ◌≤◌, ◌==◌, ℕ, Option};
+ghost use Rattle.std.specs.Prelude.{◌≡◌, ◌+◌, ◌<◌, ◌≤◌, ◌^◌, ◌==◌, ℕ, Option, Some};
 ghost use Rattle.std.specs.Option.{option_map, option_and_then};
 ghost use Rattle.std.specs.FinMap as map;
 ghost use Rattle.name_trie.specs.Least.{least};
+ghost use Rattle.pit_fib.specs.FaceSet.{AtMost64};
 ghost use Rattle.pit_fib.specs.Kept.{deadline, row_of, with_answered};
 ghost use Rattle.pit_fib.specs.Last.{last_exact, last_in, last_prefix};
+ghost use Rattle.pit_fib.specs.RecordTally.{ArePositive, counts, number};
 
-use crate::entry::{Entry, InRecord, add_faces, in_record_of, later, lesser};
+use crate::by_face::Used;
+use crate::entry::{
+    Entry, InRecord, add_faces, in_record_of, later, lesser, lower_faces, raise_faces,
+};
 use crate::face_set::Faces;
 use crate::flags::Flags;
 use std::marker::Model;
@@ -110,6 +115,35 @@ impl Slots {
             + usize::from(self.exact_fresh.is_some())
             + usize::from(self.prefix.is_some())
             + usize::from(self.prefix_fresh.is_some())
+    }
+
+    /// Adds the number of in-records that each face has in the entries.
+    pub fn raise(&self, faces: &mut Used)
+        requires positive { ArePositive faces.old }
+        requires small { (f : ℕ) → number faces.old f + counts (Some f) self.now < 2 ^ 64 }
+        requires room { AtMost64 (λ f. 0 < number faces.old f + counts (Some f) self.now) }
+        ensures positive { ArePositive faces.new }
+        ensures raised { (f : ℕ) → number faces.new f
+            ≡ number faces.old f + counts (Some f) self.now }
+    {
+        raise_faces(&self.exact, faces);
+        raise_faces(&self.exact_fresh, faces);
+        raise_faces(&self.prefix, faces);
+        raise_faces(&self.prefix_fresh, faces);
+    }
+
+    /// Subtracts the number of in-records that each face has in the entries.
+    pub fn lower(&self, faces: &mut Used)
+        requires positive { ArePositive faces.old }
+        requires some { (f : ℕ) → counts (Some f) self.now ≤ number faces.old f }
+        ensures positive { ArePositive faces.new }
+        ensures lowered { (f : ℕ) → number faces.new f + counts (Some f) self.now
+            ≡ number faces.old f }
+    {
+        lower_faces(&self.exact, faces);
+        lower_faces(&self.exact_fresh, faces);
+        lower_faces(&self.prefix, faces);
+        lower_faces(&self.prefix_fresh, faces);
     }
 
     /// Applies a revision to each entry.

@@ -388,12 +388,14 @@ fn change(
     Some(true)
 }
 
-/// Closes a face in the table and in the arrays.
-fn close_face(routes: &mut RouteTable, plain: &mut Plain, face: u64) {
+/// Closes a face in the table and in the arrays. Returns whether the table then knows that the face
+/// has no routes.
+fn close_face(routes: &mut RouteTable, plain: &mut Plain, face: u64) -> bool {
     routes.close_face(face);
     for entry in plain.iter_mut() {
         close(entry, face);
     }
+    !routes.read().may_lead_to(face)
 }
 
 /// Returns a random route. On average, one route in three has a deadline, which is below 24.
@@ -428,10 +430,7 @@ fn call_agrees(
     let agrees = match random(state, 32) {
         0 | 1 => expire_agrees(routes, plain, seen, now),
         2..=7 => list_agrees(alloc, routes, plain, seen, now),
-        8 => {
-            close_face(routes, plain, route.face);
-            true
-        }
+        8 => close_face(routes, plain, route.face),
         call => change(routes, plain, name, call.saturating_sub(9), route) == Some(true),
     };
     let asked = random(state, 8) as usize;

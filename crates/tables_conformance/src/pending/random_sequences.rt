@@ -225,7 +225,21 @@ fn shows_all(table: &Table, records: &Records) -> bool {
         }
         len = len.saturating_add(usize::from(entry.is_pending()));
     }
-    table.pit.len() == len
+    table.pit.len() == len && counts_all(table, records)
+}
+
+/// Returns whether the table counts the in-records of each face.
+fn counts_all(table: &Table, records: &Records) -> bool {
+    for face in 0..3 {
+        let mut count = 0u64;
+        for entry in records {
+            count = count.saturating_add(u64::from(entry.ask_of(face).is_some()));
+        }
+        if table.pit.records_of(face as u64) != count {
+            return false;
+        }
+    }
+    true
 }
 
 /// Returns whether a face has a pending Interest that the Data answers.

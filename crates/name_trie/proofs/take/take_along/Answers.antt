@@ -12,7 +12,7 @@ use Rattle.name_trie.specs.Taken.{taken, taken_along, changed_along}
 use Rattle.name_trie.proofs.Along.{before, next_before, last_own, cut_short, still, step_along, nothing_taken, nothing_below}
 use Rattle.name_trie.proofs.Changed.{walk-append, same_or}
 use Rattle.name_trie.proofs.Closed.{walk_turned, sound_turned, bare_turned}
-use Rattle.name_trie.proofs.Totals.{counted_turned}
+use Rattle.name_trie.proofs.Totals.{counted_turned, has_counts}
 use Rattle.name_trie.proofs.Walks.{walk_none}
 use Rattle.name_trie.proofs.take.take_along.Given as given
 use Rattle.name_trie.proofs.take.take_along.Goals as goal
@@ -26,11 +26,25 @@ untouched own below (c ∷ q) (Some v) = refl
 same_some : (a b : ℕ) → Some a ≡ Some b → a ≡ b
 same_some a b e = cc
 
-pub take_at-requires : goal.take_at-requires
-take_at-requires g c = c.loop-next.invariant.timed
+pub take_at-requires-clause-timed : goal.take_at-requires-clause-timed
+take_at-requires-clause-timed g c = c.loop-next.invariant.timed
 
-pub take_at-requires-in-Some : goal.take_at-requires-in-Some
-take_at-requires-in-Some g c = c.loop-next.invariant.timed
+pub take_at-requires-clause-has : goal.take_at-requires-clause-has
+take_at-requires-clause-has g c =
+    has_counts g.S.Tally.counts (get c.loop-next.nodes) c.args.root c.loop-next.invariant.sound (g.S.Tally.sum c.loop-next.tally) c.loop-next.invariant.counted c.in-Some.at
+
+pub take_at-requires-clause-fewer : goal.take_at-requires-clause-fewer
+take_at-requires-clause-fewer g c = c.requires.fewer true
+
+pub take_at-requires-in-Some-clause-timed : goal.take_at-requires-in-Some-clause-timed
+take_at-requires-in-Some-clause-timed g c = c.loop-next.invariant.timed
+
+pub take_at-requires-in-Some-clause-has : goal.take_at-requires-in-Some-clause-has
+take_at-requires-in-Some-clause-has g c =
+    has_counts g.S.Tally.counts (get c.loop-next.nodes) c.args.root c.loop-next.invariant.sound (g.S.Tally.sum c.loop-next.tally) c.loop-next.invariant.counted c.in-Some.at
+
+pub take_at-requires-in-Some-clause-fewer : goal.take_at-requires-in-Some-clause-fewer
+take_at-requires-in-Some-clause-fewer g c = c.requires.fewer false
 
 pub loop-next-init : goal.loop-next-init
 loop-next-init g c = record {
@@ -64,7 +78,7 @@ loop-next-preserved g c =
     record {
       sound = sound_turned k _ h h' turns root before.sound;
       timed = c.take_at-in-Some.ensures.timed;
-      counted = counted_turned g.V.Timed.size k _ h h' turns root before.sound below refl c.loop-next.len c.take_at-in-Some.new.len c.take_at-in-Some.ensures.counted before.counted;
+      counted = counted_turned g.S.Tally.counts k _ h h' turns root before.sound below refl (g.S.Tally.sum c.loop-next.tally) (g.S.Tally.sum c.take_at-in-Some.new.tally) c.take_at-in-Some.ensures.counted before.counted;
       few = omega (arith, before.few, c.take_at-in-Some.ensures.few);
       capacity = omega (arith, before.capacity, c.take_at-in-Some.ensures.capacity);
       walks = λ q. walk_turned k _ h h' turns root q ∙ before.walks q;
@@ -93,8 +107,8 @@ returns-in_default-next-clause-sound g c =
 
 pub returns-in_default-next-clause-counted : goal.returns-in_default-next-clause-counted
 returns-in_default-next-clause-counted g c =
-    counted_turned g.V.Timed.size c.in-Some.at _ (get c.loop-next.nodes) (get c.take_at.new.nodes) c.take_at.ensures.turns c.args.root c.loop-next.invariant.sound (g.T.Take.left true) refl
-    c.loop-next.len c.take_at.new.len c.take_at.ensures.counted c.loop-next.invariant.counted
+    counted_turned g.S.Tally.counts c.in-Some.at _ (get c.loop-next.nodes) (get c.take_at.new.nodes) c.take_at.ensures.turns c.args.root c.loop-next.invariant.sound (g.T.Take.left true) refl
+    (g.S.Tally.sum c.loop-next.tally) (g.S.Tally.sum c.take_at.new.tally) c.take_at.ensures.counted c.loop-next.invariant.counted
 
 -- if the walk does not stop early, it ends at the node of the whole name
 whole : (g : given.Over) (c : goal.After-take_at g) → c.loop-next.invariant.path.0 ≡ components c.args.name

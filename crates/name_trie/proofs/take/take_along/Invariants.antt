@@ -17,7 +17,7 @@ invariant-loop-next g l =
     record {
       sound : Sound (get l.nodes) l.fn.root;
       timed : IsTimed g.V.Timed.timer (get l.nodes) l.timers.timers;
-      counted : IsCounted g.V.Timed.size (get l.nodes) l.fn.root l.len;
+      counted : IsCounted g.S.Tally.counts (get l.nodes) l.fn.root (g.S.Tally.sum l.tally);
       few : set.len l.timers.timers ≤ set.len l.fn.timers.timers;
       capacity : l.fn.timers.capacity ≤ l.timers.capacity;
       walks : (q : List Field) → walk (get l.nodes) l.fn.root q ≡ walk (get l.fn.nodes) l.fn.root q;

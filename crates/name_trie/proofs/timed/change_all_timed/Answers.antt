@@ -5,7 +5,7 @@ use Rattle.name_trie.specs.Trie.{value}
 use Rattle.name_trie.proofs.Changed.{same_or}
 use Rattle.name_trie.proofs.Closed.{walk_turned, sound_turned}
 use Rattle.name_trie.proofs.Rings.{same_timers}
-use Rattle.name_trie.proofs.Totals.{counted_same, counted_turned}
+use Rattle.name_trie.proofs.Totals.{counted_same, counted_turned, has_counts}
 use Rattle.name_trie.proofs.timed.change_all_timed.Goals as goal
 
 pub loop-k-preserved : goal.loop-k-preserved
@@ -21,7 +21,7 @@ loop-k-preserved g c =
     record {
       sound = sound_turned k _ h h' turns root before.sound;
       timed = c.change_timed.ensures.timed;
-      counted = counted_turned g.V.Timed.size k _ h h' turns root before.sound (g.C.Change.change c.args.how.now) refl c.loop-k.len c.change_timed.new.len c.change_timed.ensures.counted before.counted;
+      counted = counted_turned g.S.Tally.counts k _ h h' turns root before.sound (g.C.Change.change c.args.how.now) refl (g.S.Tally.sum c.loop-k.tally) (g.S.Tally.sum c.change_timed.new.tally) c.change_timed.ensures.counted before.counted;
       few = omega (arith, before.few, c.change_timed.ensures.few);
       capacity = omega (arith, before.capacity, c.change_timed.ensures.capacity);
       walks = λ q. walk_turned k _ h h' turns root q ∙ before.walks q;
@@ -39,4 +39,8 @@ returns-clause-timed g c =
 
 pub returns-clause-counted : goal.returns-clause-counted
 returns-clause-counted g c =
-    counted_same g.V.Timed.size (get c.loop-k.nodes) (get c.prune_all.new.nodes) c.args.root.now c.prune_all.new.root c.loop-k.len c.prune_all.ensures.same c.loop-k.invariant.counted
+    counted_same g.S.Tally.counts (get c.loop-k.nodes) (get c.prune_all.new.nodes) c.args.root.now c.prune_all.new.root (g.S.Tally.sum c.loop-k.tally) c.prune_all.ensures.same c.loop-k.invariant.counted
+
+pub change_timed-requires-clause-has : goal.change_timed-requires-clause-has
+change_timed-requires-clause-has g c =
+    has_counts g.S.Tally.counts (get c.loop-k.nodes) c.args.root.now c.loop-k.invariant.sound (g.S.Tally.sum c.loop-k.tally) c.loop-k.invariant.counted c.loop-k.k

@@ -6,7 +6,7 @@ use Rattle.name_trie.specs.Trie.{value}
 use Rattle.name_trie.specs.Timed.{timer_at, started, stopped}
 use Rattle.name_trie.proofs.Closed.{sound_turned, walk_turned, bare_turned}
 use Rattle.name_trie.proofs.Rings.{due, fewer_due, rings_is, later_than, changed_early, none_due, same_timers}
-use Rattle.name_trie.proofs.Totals.{counted_same, counted_turned}
+use Rattle.name_trie.proofs.Totals.{counted_same, counted_turned, has_counts}
 use Rattle.name_trie.proofs.timed.expire.Goals as goal
 
 pub prune-requires : goal.prune-requires
@@ -37,8 +37,8 @@ loop-timer-preserved g c =
     record {
       sound = c.prune.ensures.sound;
       timed = same_timers g.V.Timed.timer h' (get c.prune.new.nodes) c.change_timed.new.timers.timers c.prune.ensures.values c.change_timed.ensures.timed;
-      counted = counted_same g.V.Timed.size h' (get c.prune.new.nodes) root c.prune.new.root c.change_timed.new.len c.prune.ensures.same
-          (counted_turned g.V.Timed.size k _ h h' turns root before.sound change refl c.loop-timer.len c.change_timed.new.len c.change_timed.ensures.counted before.counted);
+      counted = counted_same g.S.Tally.counts h' (get c.prune.new.nodes) root c.prune.new.root (g.S.Tally.sum c.change_timed.new.tally) c.prune.ensures.same
+          (counted_turned g.S.Tally.counts k _ h h' turns root before.sound change refl (g.S.Tally.sum c.loop-timer.tally) (g.S.Tally.sum c.change_timed.new.tally) c.change_timed.ensures.counted before.counted);
       few = omega (arith, before.few, c.change_timed.ensures.few);
       capacity = omega (arith, before.capacity, c.change_timed.ensures.capacity);
       tidy = λ j bare. elim (c.prune.ensures.tidy j bare) as (λ _. c.args.kept ≡ Some j) [
@@ -55,3 +55,7 @@ returns-clause-changed g c = λ q.
     let none = rw c.in_default.is at c.first_due.ensures in
     sym (none_due g.V.Timed.timer (g.C.Change.change c.args.how.now) c.args.now c.requires.idle c.requires.later (get c.loop-timer.nodes) c.loop-timer.timers.timers c.loop-timer.invariant.timed none c.loop-timer.root q)
     ∙ c.loop-timer.invariant.same q
+
+pub change_timed-requires-clause-has : goal.change_timed-requires-clause-has
+change_timed-requires-clause-has g c =
+    has_counts g.S.Tally.counts (get c.loop-timer.nodes) c.loop-timer.root c.loop-timer.invariant.sound (g.S.Tally.sum c.loop-timer.tally) c.loop-timer.invariant.counted c.in-Some.timer.key

@@ -14,7 +14,7 @@ abbrev pub invariant-loop-timer : goal.invariant-loop-timer
 invariant-loop-timer g l = record {
   sound : Sound (get l.nodes) l.root;
   timed : IsTimed g.V.Timed.timer (get l.nodes) l.timers.timers;
-  counted : IsCounted g.V.Timed.size (get l.nodes) l.root l.len;
+  counted : IsCounted g.S.Tally.counts (get l.nodes) l.root (g.S.Tally.sum l.tally);
   few : set.len l.timers.timers ≤ set.len l.initial.timers.timers;
   capacity : l.initial.timers.capacity ≤ l.timers.capacity;
   tidy : IsTidy (get l.nodes) l.kept;

@@ -2,6 +2,7 @@ use Rattle.std.proofs.Common.{◌≡◌, ◌<◌, refl, ap, sym, subst, ◌∙�
 use Rattle.std.specs.Prelude.{Option, Some, None, IsSome}
 use Rattle.std.specs.FinSet as set
 use Rattle.slab.specs.Slab.{get}
+use Rattle.name_trie.specs.Flat.{size_of}
 use Rattle.name_trie.specs.Trie.{value}
 use Rattle.name_trie.specs.Changes.{Turns}
 use Rattle.name_trie.proofs.Changed.{there_by_up, set_turns}
@@ -36,3 +37,26 @@ returns-clause-turns g c =
     let made : c.apply.result ≡ becomes (value h k) = c.apply.ensures ∙ ap becomes c.take_timed-old.ensures.value in
     subst (λ (v : g.row.V.Denot). Turns k (Some v) h h2) made
     (turned_twice k None (Some c.apply.result) h h1 h2 c.take_timed-old.ensures.turns (set_turns k (Some c.apply.result) h1 h2 c.put_timed.ensures.sets))
+
+pub lower_at-requires : goal.lower_at-requires
+lower_at-requires g c = c.requires.has
+
+pub raise_at-requires : goal.raise_at-requires
+raise_at-requires g c =
+    let counts = g.S.Tally.counts in
+    let h = get c.args.nodes.now in
+    let k = c.args.k in
+    let becomes = g.B.Becomes.becomes c.args.how in
+    c.requires.fits _
+    (λ i.
+    let made : c.apply.result ≡ becomes (value h k) = c.apply.ensures ∙ ap becomes c.take_timed-old.ensures.value in
+    let now : size_of (counts i) (value (get c.put_timed.new.nodes) k) ≡ counts i (becomes (value h k)) =
+    ap (size_of (counts i)) (set_turns k (Some c.apply.result) (get c.take_timed-old.new.nodes) (get c.put_timed.new.nodes) c.put_timed.ensures.sets).here ∙ ap (counts i) made in
+    let lowered = c.lower_at.ensures i in
+    omega (arith, now, lowered))
+
+pub returns-clause-counted : goal.returns-clause-counted
+returns-clause-counted g c = λ i.
+    let lowered = c.lower_at.ensures i in
+    let raised = c.raise_at.ensures i in
+    omega (arith, lowered, raised)

@@ -10,7 +10,7 @@ use Rattle.name_trie.proofs.Walks.{get-table, same_table, remove_absent}
 use Rattle.name_trie.proofs.Closed.{walk_turned, sound_turned, lookup_turned, bare_turned, with_value_table}
 use Rattle.name_trie.proofs.Changed.{held_still}
 use Rattle.name_trie.proofs.Rings.{same_timers, still_room}
-use Rattle.name_trie.proofs.Totals.{counted_same, counted_turned}
+use Rattle.name_trie.proofs.Totals.{counted_same, counted_turned, has_counts}
 use Rattle.name_trie.proofs.timed_map.TimedMap.change.Goals as goal
 
 pub prune-requires : goal.prune-requires
@@ -32,8 +32,8 @@ invariant_of-self g c =
       ]),
       same_timers g.V.Timed.timer h1 (get c.prune.new.nodes) c.change_timed.new.timers.timers c.prune.ensures.values c.change_timed.ensures.timed,
       still_room c.self.inside.is_ready c.self.inside.timers c.change_timed.new.timers c.change_timed.ensures.few c.change_timed.ensures.capacity c.self.invariant.4,
-      counted_same g.V.Timed.size h1 (get c.prune.new.nodes) root c.prune.new.root c.change_timed.new.len c.prune.ensures.same
-          (counted_turned g.V.Timed.size c.in-Some.k _ h h1 turns root c.self.invariant.0 (g.C.Change.change c.args.how.now) refl c.self.inside.len c.change_timed.new.len c.change_timed.ensures.counted c.self.invariant.5),
+      counted_same g.S.Tally.counts h1 (get c.prune.new.nodes) root c.prune.new.root (g.S.Tally.sum c.change_timed.new.tally) c.prune.ensures.same
+          (counted_turned g.S.Tally.counts c.in-Some.k _ h h1 turns root c.self.invariant.0 (g.C.Change.change c.args.how.now) refl (g.S.Tally.sum c.self.inside.tally) (g.S.Tally.sum c.change_timed.new.tally) c.change_timed.ensures.counted c.self.invariant.5),
     )
 
 pub returns-clause-table : goal.returns-clause-table
@@ -61,3 +61,7 @@ returns-in_default-clause-table g c =
     ap (λ t. map.get t.table name) (sym c.self.view_is) ∙ get-table h c.self.inside.root name c.args.name.spelled.1.0 ∙ ap (option_and_then (value h)) (sym c.in_default.ensures) in
     remove_absent c.args.self.now.table name none
     ∙ sym (ap (λ (o : Option g.row.V.Denot). with_value c.args.self.now.table name (option_and_then (g.C.Change.change c.args.how.now) o)) none)
+
+pub change_timed-requires-clause-has : goal.change_timed-requires-clause-has
+change_timed-requires-clause-has g c =
+    has_counts g.S.Tally.counts (get c.self.inside.nodes) c.self.inside.root c.self.invariant.0 (g.S.Tally.sum c.self.inside.tally) c.self.invariant.5 c.in-Some.k

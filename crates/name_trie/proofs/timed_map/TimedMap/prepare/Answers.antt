@@ -20,8 +20,8 @@ invariant_of-self g c =
       ]),
       search rules,
       search rules,
-      counted_same g.V.Timed.size (get c.hold-held.new.nodes) (get c.release.new.nodes) c.hold-held.new.root c.release.new.root c.self.inside.len c.release.ensures.same
-          (counted_same g.V.Timed.size (get c.self.inside.nodes) (get c.hold-held.new.nodes) c.self.inside.root c.hold-held.new.root c.self.inside.len c.hold-held.ensures.same c.self.invariant.5),
+      counted_same g.S.Tally.counts (get c.hold-held.new.nodes) (get c.release.new.nodes) c.hold-held.new.root c.release.new.root (g.S.Tally.sum c.self.inside.tally) c.release.ensures.same
+          (counted_same g.S.Tally.counts (get c.self.inside.nodes) (get c.hold-held.new.nodes) c.self.inside.root c.hold-held.new.root (g.S.Tally.sum c.self.inside.tally) c.hold-held.ensures.same c.self.invariant.5),
     )
 
 pub returns-in_err-held-clause-table : goal.returns-in_err-held-clause-table
@@ -43,8 +43,8 @@ invariant_of-self-2 g c =
       ]),
       search rules,
       search rules,
-      counted_same g.V.Timed.size (get c.hold-held.new.nodes) (get c.release.new.nodes) c.hold-held.new.root c.release.new.root c.self.inside.len c.release.ensures.same
-          (counted_same g.V.Timed.size (get c.self.inside.nodes) (get c.hold-held.new.nodes) c.self.inside.root c.hold-held.new.root c.self.inside.len c.hold-held.ensures.same c.self.invariant.5),
+      counted_same g.S.Tally.counts (get c.hold-held.new.nodes) (get c.release.new.nodes) c.hold-held.new.root c.release.new.root (g.S.Tally.sum c.self.inside.tally) c.release.ensures.same
+          (counted_same g.S.Tally.counts (get c.self.inside.nodes) (get c.hold-held.new.nodes) c.self.inside.root c.hold-held.new.root (g.S.Tally.sum c.self.inside.tally) c.hold-held.ensures.same c.self.invariant.5),
     )
 
 pub returns-clause-table : goal.returns-clause-table

@@ -6,7 +6,7 @@ use Rattle.slab.specs.Slab.{get}
 use Rattle.ndn_tlv.specs.Element.{Field}
 use Rattle.ndn_names.specs.View.{components}
 use Rattle.ndn_tlv.specs.declared.memory.Memory.{Memory}
-use Rattle.name_trie.specs.Flat.{size_of}
+use Rattle.name_trie.specs.Flat.{total}
 use Rattle.name_trie.specs.Trie.{Heap, value, lookup, table_of}
 use Rattle.name_trie.specs.Changes.{SameLookups, IsTidy}
 use Rattle.name_trie.specs.Timed.{IsTimed, HasTimerRoom}
@@ -15,7 +15,7 @@ use Rattle.name_trie.proofs.Walks.{get-table, same_table}
 use Rattle.name_trie.proofs.Changed.{held_still, live, same_or, there_by_up}
 use Rattle.name_trie.proofs.Closed.{walk_turned, sound_turned, lookup_turned, bare_turned, with_value_table}
 use Rattle.name_trie.proofs.Rings.{same_timers}
-use Rattle.name_trie.proofs.Totals.{counted_same, counted_at}
+use Rattle.name_trie.proofs.Totals.{counted_same, counted_at, has_counts, inserted}
 use Rattle.name_trie.proofs.timed_map.TimedMap.put_with.Goals as goal
 
 -- if the lookup of each name returns the same in `h1` as in `h`, the lookup in `h1` of a name of at
@@ -59,13 +59,38 @@ replace_at-requires-clause-node g c =
     let up_k = live h c.place_for.new.root c.place_for.ensures.sound (components c.args.name) c.in_ok-k.k c.in_ok-k.ensures.ok in
     there_by_up h c.in_ok-k.k up_k.0 up_k.1
 
+pub replace_at-requires-clause-has : goal.replace_at-requires-clause-has
+replace_at-requires-clause-has g c =
+    let counts = g.S.Tally.counts in
+    let h1 = get c.release_other.new.nodes in
+    let sum = g.S.Tally.sum c.self.inside.tally in
+    has_counts counts (get c.place_for.new.nodes) c.place_for.new.root c.place_for.ensures.sound sum
+    (counted_same counts h1 (get c.place_for.new.nodes) c.release_other.new.root c.place_for.new.root sum c.place_for.ensures.same
+    (counted_same counts (get c.self.inside.nodes) h1 c.self.inside.root c.release_other.new.root sum c.release_other.ensures.same c.self.invariant.5)) c.in_ok-k.k
+
+pub replace_at-requires-clause-fits : goal.replace_at-requires-clause-fits
+replace_at-requires-clause-fits g c = λ sums re.
+    let counts = g.S.Tally.counts in
+    let h = get c.place_for.new.nodes in
+    let name = components c.args.name in
+    let becomes = g.B.Becomes.becomes c.args.how in
+    let table = c.args.self.now.table in
+    let was : value h c.in_ok-k.k ≡ map.get table name =
+    ap (option_and_then (value h)) (sym c.in_ok-k.ensures.ok) ∙ c.place_for.ensures.same name
+    ∙ seen (get c.self.inside.nodes) (get c.release_other.new.nodes) c.self.inside.root c.release_other.new.root table name c.args.name.spelled.1.0 c.release_other.ensures.same (ap (λ t. t.table) c.self.view_is) in
+    g.met.S.Tally.fewer _ _
+    (inserted counts table name (becomes (map.get table name)) (value h c.in_ok-k.k) was (g.S.Tally.sum c.self.inside.tally) sums
+    (λ i. c.self.invariant.5 i ∙ ap (λ t. total (counts i) (map.entries t.table)) c.self.view_is)
+    (λ i. re i ∙ ap (λ o. g.S.Tally.sum c.self.inside.tally i + counts i (becomes o)) was))
+    c.requires
+
 pub invariant_of-self : goal.invariant_of-self
 invariant_of-self g c =
     let h = get c.self.inside.nodes in
     let h1 = get c.release_other.new.nodes in
     let h2 = get c.place_for.new.nodes in
     let timer = g.V.Timed.timer in
-    let size = g.V.Timed.size in
+    let size = g.S.Tally.counts in
     let tidy = subst (λ (o : Option (List Field × ℕ)). IsTidy h (option_map (λ p. p.1) o)) (sym c.take-held.ensures.value) c.self.invariant.2 in (
       c.place_for.ensures.sound,
       c.place_for.ensures.held,
@@ -76,8 +101,8 @@ invariant_of-self g c =
       subst (IsTimed timer h2) (sym c.place_for.ensures.timers)
           (same_timers timer h h2 c.self.inside.timers.timers (λ j. c.place_for.ensures.values j ∙ c.release_other.ensures.values j) c.self.invariant.3),
       tt,
-      counted_same size h1 h2 c.release_other.new.root c.place_for.new.root c.self.inside.len c.place_for.ensures.same
-          (counted_same size h h1 c.self.inside.root c.release_other.new.root c.self.inside.len c.release_other.ensures.same c.self.invariant.5),
+      counted_same size h1 h2 c.release_other.new.root c.place_for.new.root (g.S.Tally.sum c.self.inside.tally) c.place_for.ensures.same
+          (counted_same size h h1 c.self.inside.root c.release_other.new.root (g.S.Tally.sum c.self.inside.tally) c.release_other.ensures.same c.self.invariant.5),
     )
 
 pub invariant_of-self-2 : goal.invariant_of-self-2
@@ -90,7 +115,7 @@ invariant_of-self-2 g c =
     let k = c.in_ok-k.k in
     let turns = c.replace_at.ensures.turns in
     let held = c.release_other.result in
-    let size = g.V.Timed.size in
+    let size = g.S.Tally.counts in
     let tidy = subst (λ (o : Option (List Field × ℕ)). IsTidy h (option_map (λ p. p.1) o)) (sym c.take-held.ensures.value) c.self.invariant.2 in (
       sound_turned k _ h2 h3 turns root c.place_for.ensures.sound,
       held_still h2 h3 root root (option_map (λ p. p.1) held) held refl (λ q _ at. walk_turned k _ h2 h3 turns root q ∙ at) c.place_for.ensures.held,
@@ -102,10 +127,10 @@ invariant_of-self-2 g c =
           ])),
       c.replace_at.ensures.timed,
       tt,
-      counted_at size k _ h2 h3 turns root c.place_for.ensures.sound (components c.args.name) c.args.name.spelled.1.0 c.in_ok-k.ensures.ok c.self.inside.len c.replace_at.new.len
-          (λ sum sum' e. c.replace_at.ensures.counted sum sum' (e ∙ ap (λ o. sum + size_of size o) (sym turns.here)))
-          (counted_same size h1 h2 c.release_other.new.root root c.self.inside.len c.place_for.ensures.same
-          (counted_same size h h1 c.self.inside.root c.release_other.new.root c.self.inside.len c.release_other.ensures.same c.self.invariant.5)),
+      counted_at size k _ h2 h3 turns root c.place_for.ensures.sound (components c.args.name) c.args.name.spelled.1.0 c.in_ok-k.ensures.ok (g.S.Tally.sum c.self.inside.tally) (g.S.Tally.sum c.replace_at.new.tally)
+          c.replace_at.ensures.counted
+          (counted_same size h1 h2 c.release_other.new.root root (g.S.Tally.sum c.self.inside.tally) c.place_for.ensures.same
+          (counted_same size h h1 c.self.inside.root c.release_other.new.root (g.S.Tally.sum c.self.inside.tally) c.release_other.ensures.same c.self.invariant.5)),
     )
   where
     same_ok : (i j : ℕ) → ◌≡◌ {A = Result ℕ Memory} (Ok i) (Ok j) → i ≡ j

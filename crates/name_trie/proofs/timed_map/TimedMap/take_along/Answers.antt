@@ -56,7 +56,7 @@ invariant_of-self-2 g c =
       ]),
       same_timers g.V.Timed.timer h1 h2 c.take_along.new.timers.timers c.prune.ensures.values c.take_along.ensures.timed,
       still_room c.self.inside.is_ready c.self.inside.timers c.take_along.new.timers c.take_along.ensures.few c.take_along.ensures.capacity c.self.invariant.4,
-      counted_same g.V.Timed.size h1 h2 root c.prune.new.root c.take_along.new.len c.prune.ensures.same c.take_along.ensures.counted,
+      counted_same g.S.Tally.counts h1 h2 root c.prune.new.root (g.S.Tally.sum c.take_along.new.tally) c.prune.ensures.same c.take_along.ensures.counted,
     )
   where
     same_some : (a b : ℕ) → Some a ≡ Some b → a ≡ b

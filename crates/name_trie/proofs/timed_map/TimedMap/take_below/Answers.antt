@@ -11,7 +11,7 @@ use Rattle.name_trie.proofs.Walks.{get-table, get_nothing, same_table, remove_ab
 use Rattle.name_trie.proofs.Closed.{walk_turned, sound_turned, lookup_turned, bare_turned, with_value_table}
 use Rattle.name_trie.proofs.Changed.{held_still, short_name, walk-append}
 use Rattle.name_trie.proofs.Rings.{same_timers, still_room}
-use Rattle.name_trie.proofs.Totals.{counted_same, counted_turned}
+use Rattle.name_trie.proofs.Totals.{counted_same, counted_turned, has_counts}
 use Rattle.name_trie.proofs.timed_map.TimedMap.take_below.Given as given
 use Rattle.name_trie.proofs.timed_map.TimedMap.take_below.Goals as goal
 
@@ -71,8 +71,8 @@ invariant_of-self g c =
       ]),
       same_timers g.V.Timed.timer h1 (get c.prune.new.nodes) c.take_at.new.timers.timers c.prune.ensures.values c.take_at.ensures.timed,
       still_room c.self.inside.is_ready c.self.inside.timers c.take_at.new.timers c.take_at.ensures.few c.take_at.ensures.capacity c.self.invariant.4,
-      counted_same g.V.Timed.size h1 (get c.prune.new.nodes) root c.prune.new.root c.take_at.new.len c.prune.ensures.same
-          (counted_turned g.V.Timed.size k _ h h1 turns root c.self.invariant.0 (g.T.Take.left true) refl c.self.inside.len c.take_at.new.len c.take_at.ensures.counted c.self.invariant.5),
+      counted_same g.S.Tally.counts h1 (get c.prune.new.nodes) root c.prune.new.root (g.S.Tally.sum c.take_at.new.tally) c.prune.ensures.same
+          (counted_turned g.S.Tally.counts k _ h h1 turns root c.self.invariant.0 (g.T.Take.left true) refl (g.S.Tally.sum c.self.inside.tally) (g.S.Tally.sum c.take_at.new.tally) c.take_at.ensures.counted c.self.invariant.5),
     )
 
 led : (g : given.Over) (c : goal.After-prune g) → walk (get c.self.inside.nodes) c.self.inside.root (components c.args.name ++ field_of c.args.component ∷ []) ≡ Some c.in-Some-child_of.k
@@ -109,3 +109,7 @@ returns-clause-taken g c =
     let name = components c.args.name ++ field_of c.args.component ∷ [] in
     c.take_at.ensures.taken ∙ ap (taken (g.T.Take.taken true) c.args.how.now) (had g c)
     ∙ ap (λ t. taken (g.T.Take.taken true) c.args.how.now (map.get t.table name)) c.self.view_is
+
+pub take_at-requires-clause-has : goal.take_at-requires-clause-has
+take_at-requires-clause-has g c =
+    has_counts g.S.Tally.counts (get c.self.inside.nodes) c.self.inside.root c.self.invariant.0 (g.S.Tally.sum c.self.inside.tally) c.self.invariant.5 c.in-Some-child_of.k

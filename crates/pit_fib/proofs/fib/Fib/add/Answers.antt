@@ -1,9 +1,11 @@
-use Rattle.std.proofs.Common.{◌≡◌, inl, sym, ap, subst, ◌∙◌, arith}
+use Rattle.std.proofs.Common.{◌≡◌, inl, inr, sym, ap, subst, ◌∙◌, arith}
 use Rattle.std.specs.Prelude.{None}
 use Rattle.std.specs.Vec.{vec_capacity}
 use Rattle.std.specs.FinMap.{insert}
 use Rattle.ndn_names.specs.View.{components}
-use Rattle.pit_fib.specs.Fib.{Entry, HasRoomFor, entry_at, entry_with_hop, route_count, with_next_hop}
+use Rattle.pit_fib.specs.Led.{MayLead}
+use Rattle.pit_fib.proofs.Leading.{set_leads}
+use Rattle.pit_fib.specs.Fib.{Entry, HasRoomFor, LeadsTo, entry_at, entry_with_hop, route_count, with_next_hop}
 use Rattle.pit_fib.specs.Limits.{IsRoomFor, IsTallied, IsWithinFib}
 use Rattle.pit_fib.specs.Refusal.{refusal}
 use Rattle.pit_fib.proofs.FibEntries.{hop_leads, hop_stands}
@@ -13,7 +15,7 @@ use Rattle.pit_fib.proofs.Within.{set_in_room}
 use Rattle.pit_fib.proofs.fib.Fib.add.Goals as goal
 
 -- the new table is the old table with the next hop set, because the limit of 64 faces permits this
-put : (c : goal.In_ok-put_with) → c.put_with.new.self.table ≡ with_next_hop c.self.inside.entries.table (components c.args.name) c.args.face c.args.cost
+put : (c : goal.After-add) → c.put_with.new.self.table ≡ with_next_hop c.self.inside.entries.table (components c.args.name) c.args.face c.args.cost
 put c =
     let t = c.self.inside.entries.table in
     let name = components c.args.name in
@@ -42,4 +44,8 @@ invariant_of-self-2 c =
       subst (λ n. IsTallied n c.self.inside.count c.self.inside.next_due) (sym is)
           (record { counted = inside.1.counted ∙ sym same; later = later_set t inside.0 name e c.self.inside.next_due inside.1.later (λ key r there. inl there) }),
       subst (λ p. IsRoomFor c.put_with.new.self.table (vec_capacity c.self.inside.room) p) (sym c.put_with.ensures.ended) tt,
+      (λ f leads. elim (set_leads t inside.0 name e face (hop_leads face c.args.cost (entry_at t name)) f (subst (λ n. LeadsTo n f) is leads)) [
+        | (inl was) ↦ c.add.ensures.kept f (inside.3 f was)
+        | (inr same) ↦ subst (MayLead c.add.new.self) (sym same) c.add.ensures.added
+      ]),
     )

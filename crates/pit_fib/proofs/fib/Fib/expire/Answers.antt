@@ -3,7 +3,7 @@ use Rattle.std.specs.Vec.{vec_capacity}
 use Rattle.pit_fib.specs.Fib.{due_count, entry_left_at, left_at, route_count}
 use Rattle.pit_fib.specs.Limits.{IsRoomFor, IsWithinFib}
 use Rattle.pit_fib.proofs.FibEntries.{part_left}
-use Rattle.pit_fib.proofs.FibTables.{IsShrunk, fewer_all, shrunk_all, shrunk_room, within_all}
+use Rattle.pit_fib.proofs.FibTables.{IsShrunk, shrunk_leads, fewer_all, shrunk_all, shrunk_room, within_all}
 use Rattle.pit_fib.proofs.FibTally.{none_due}
 use Rattle.pit_fib.proofs.fib.Fib.expire.Goals as goal
 
@@ -44,4 +44,5 @@ invariant_of-self c =
       c.tally-tally.ensures,
       subst (λ p. IsRoomFor new (vec_capacity c.self.inside.room) p) (sym c.change_all.ensures.prepared)
           (shrunk_room t new (vec_capacity c.self.inside.room) c.self.inside.entries.prepared shrunk c.self.invariant.2),
+      (λ f leads. c.self.invariant.3 f (shrunk_leads t new shrunk f leads)),
     )

@@ -1,9 +1,11 @@
-use Rattle.std.proofs.Common.{◌≡◌, ◌+◌, ◌<◌, ℕ, Bool, cond, sym, ap, subst, ◌∙◌, arith}
+use Rattle.std.proofs.Common.{◌≡◌, ◌+◌, ◌<◌, ℕ, Bool, cond, sym, ap, subst, ◌∙◌, arith, inl, inr}
 use Rattle.std.specs.Prelude.{None}
 use Rattle.std.specs.Vec.{vec_capacity}
 use Rattle.std.specs.FinMap.{contains_key, insert, len}
 use Rattle.ndn_names.specs.View.{components}
-use Rattle.pit_fib.specs.Fib.{Entry, HasRoomFor, entry_at, entry_with_route, registered_at, route_refusal, with_route}
+use Rattle.pit_fib.specs.Led.{MayLead}
+use Rattle.pit_fib.proofs.Leading.{set_leads}
+use Rattle.pit_fib.specs.Fib.{Entry, HasRoomFor, LeadsTo, entry_at, entry_with_route, registered_at, route_refusal, with_route}
 use Rattle.pit_fib.specs.Limits.{IsRoomFor, IsTallied, IsWithinFib}
 use Rattle.pit_fib.proofs.FibEntries.{route_leads, route_stands}
 use Rattle.pit_fib.proofs.FibTables.{within_set}
@@ -34,4 +36,8 @@ invariant_of-self-2 c =
             later = later_route t name key c.args.route c.self.inside.next_due c.sooner-self-inside.result c.sooner-self-inside.ensures inside.0 inside.1.later;
           }),
       subst (λ p. IsRoomFor c.put_with.new.self.table (vec_capacity c.replace-room.new.dest) p) (sym c.put_with.ensures.ended) tt,
+      (λ f leads. elim (set_leads t inside.0 name e key.face (route_leads key c.args.route (entry_at t name)) f (subst (λ n. LeadsTo n f) is leads)) [
+        | (inl was) ↦ c.add.ensures.kept f (inside.3 f was)
+        | (inr same) ↦ subst (MayLead c.add.new.self) (sym same) c.add.ensures.added
+      ]),
     )

@@ -6,7 +6,7 @@ use Rattle.name_trie.specs.ByName.{with_value}
 use Rattle.pit_fib.specs.Fib.{costs_at, entry_without_hop, registered_at, route_count, without_next_hop}
 use Rattle.pit_fib.specs.Limits.{IsRoomFor, IsWithinFib}
 use Rattle.pit_fib.proofs.FibEntries.{change_is, count_changed, no_hop, part_without_hop}
-use Rattle.pit_fib.proofs.FibTables.{IsShrunk, shrunk_later, shrunk_one, shrunk_room, within_one}
+use Rattle.pit_fib.proofs.FibTables.{IsShrunk, shrunk_leads, shrunk_later, shrunk_one, shrunk_room, within_one}
 use Rattle.pit_fib.proofs.fib.Fib.remove.Goals as goal
 
 pub returns-clause-table : goal.returns-clause-table
@@ -32,4 +32,5 @@ invariant_of-self c =
       record { counted = inside.1.counted ∙ sym same; later = shrunk_later t new c.self.inside.next_due shrunk inside.1.later },
       subst (λ p. IsRoomFor new (vec_capacity c.self.inside.room) p) (sym c.change.ensures.prepared)
           (shrunk_room t new (vec_capacity c.self.inside.room) c.self.inside.entries.prepared shrunk inside.2),
+      (λ f leads. c.self.invariant.3 f (shrunk_leads t new shrunk f leads)),
     )

@@ -9,7 +9,8 @@ use Rattle.pit_fib.specs.Fib.{costs_at, entry_without_route, registered_at, rout
 use Rattle.pit_fib.specs.Limits.{IsRoomFor, IsWithinFib, NoneEndsBefore}
 use Rattle.pit_fib.specs.Route.{route_cmp-total}
 use Rattle.pit_fib.proofs.FibEntries.{change_is, count_changed, held_in, no_route, part_without_route}
-use Rattle.pit_fib.proofs.FibTables.{IsShrunk, count_remove, shrunk_later, shrunk_one, shrunk_room, within_one}
+use Rattle.pit_fib.proofs.FibTables.{IsShrunk, shrunk_leads, count_remove, shrunk_later, shrunk_one, shrunk_room, within_one}
+use Rattle.pit_fib.specs.Led.{Led, MayLead}
 use Rattle.pit_fib.proofs.fib.Fib.unregister.Goals as goal
 use Rattle.pit_fib.proofs.fib.Fib.unregister.Goals.{then-has_route, else-has_route}
 
@@ -63,12 +64,12 @@ counted c =
           omega (arith, n, count, now, was, is)
     ]
 
--- `next_due`, the capacity of `room` and the prepared name are unchanged
-rest : (c : goal.After-change) → (c.if-has_route.self-inside.next_due ≡ c.self.inside.next_due) × (vec_capacity c.if-has_route.self-inside.room ≡ vec_capacity c.self.inside.room) × (c.if-has_route.self-inside.entries.prepared ≡ c.self.inside.entries.prepared)
+-- `next_due`, the capacity of `room`, the prepared name and `led` are unchanged
+rest : (c : goal.After-change) → (c.if-has_route.self-inside.next_due ≡ c.self.inside.next_due) × (vec_capacity c.if-has_route.self-inside.room ≡ vec_capacity c.self.inside.room) × (c.if-has_route.self-inside.entries.prepared ≡ c.self.inside.entries.prepared) × (c.if-has_route.self-inside.led ≡ c.self.inside.led)
 rest c =
     elim c.if-has_route.branch [
-      | then-has_route w ↦ (ap (λ f. f.next_due) w.self-inside-is, ap (λ f. vec_capacity f.room) w.self-inside-is, ap (λ f. f.entries.prepared) w.self-inside-is)
-      | else-has_route w ↦ (ap (λ f. f.next_due) w.self-inside-is, ap (λ f. vec_capacity f.room) w.self-inside-is, ap (λ f. f.entries.prepared) w.self-inside-is)
+      | then-has_route w ↦ (ap (λ f. f.next_due) w.self-inside-is, ap (λ f. vec_capacity f.room) w.self-inside-is, ap (λ f. f.entries.prepared) w.self-inside-is, ap (λ f. f.led) w.self-inside-is)
+      | else-has_route w ↦ (ap (λ f. f.next_due) w.self-inside-is, ap (λ f. vec_capacity f.room) w.self-inside-is, ap (λ f. f.entries.prepared) w.self-inside-is, ap (λ f. f.led) w.self-inside-is)
     ]
 
 pub invariant_of-self : goal.invariant_of-self
@@ -87,4 +88,5 @@ invariant_of-self c =
       subst (λ n. IsRoomFor new n c.change.new.self.prepared) (sym same.1)
           (subst (λ p. IsRoomFor new (vec_capacity c.self.inside.room) p) (sym (c.change.ensures.prepared ∙ same.2))
           (shrunk_room t new (vec_capacity c.self.inside.room) c.self.inside.entries.prepared shrunk inside.2)),
+      (λ f leads. subst (λ (l : Led). MayLead l f) (sym same.3) (c.self.invariant.3 f (shrunk_leads t new shrunk f leads))),
     )

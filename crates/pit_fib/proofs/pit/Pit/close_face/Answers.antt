@@ -6,6 +6,7 @@ use Rattle.pit_fib.specs.Pit.{PitState}
 use Rattle.pit_fib.proofs.KeptTables.{Steps, holds_the_living, step_alive, step_all, step_follows, step_memory, step_within}
 use Rattle.pit_fib.proofs.PendingTables.{dead_after_closing}
 use Rattle.pit_fib.proofs.Tokenless.{step_knows}
+use Rattle.pit_fib.proofs.RecordTallies.{closed_fewer}
 use Rattle.pit_fib.proofs.pit.Pit.close_face.Goals as goal
 use Rattle.pit_fib.proofs.pit.Pit.close_face.Goals.{After-change_all}
 
@@ -27,3 +28,6 @@ returns-clause-pending c =
 pub returns-clause-living : goal.returns-clause-living
 returns-clause-living c =
     holds_the_living c.change_all.new.self.table _ (step_alive (Closed c.args.face) c.self.inside.rows.table c.change_all.new.self.table (steps c)) refl
+
+pub change_all-requires : goal.change_all-requires
+change_all-requires c = closed_fewer c.args.face

@@ -7,6 +7,7 @@ use Rattle.pit_fib.proofs.KeptTables.{Steps, holds_the_living, step_alive, step_
 use Rattle.pit_fib.proofs.PendingTables.{dead_after_expiry}
 use Rattle.pit_fib.proofs.Expiry.{idle_row, later_row}
 use Rattle.pit_fib.proofs.Tokenless.{step_knows}
+use Rattle.pit_fib.proofs.RecordTallies.{expired_fewer}
 use Rattle.pit_fib.proofs.pit.Pit.expire.Goals as goal
 use Rattle.pit_fib.proofs.pit.Pit.expire.Goals.{After-expire}
 
@@ -34,3 +35,6 @@ returns-clause-pending c =
 pub returns-clause-living : goal.returns-clause-living
 returns-clause-living c =
     holds_the_living c.expire.new.self.table _ (step_alive (Expires c.args.now) c.self.inside.rows.table c.expire.new.self.table (steps c)) refl
+
+pub expire-requires-clause-fewer : goal.expire-requires-clause-fewer
+expire-requires-clause-fewer c = expired_fewer c.args.now

@@ -13,6 +13,7 @@ use Rattle.pit_fib.proofs.KeptTables.{Steps, holds_the_living, one_steps, step_a
 use Rattle.pit_fib.proofs.PendingPlaces.{nacked_elsewhere}
 use Rattle.pit_fib.proofs.PendingTables.{dead_after_nack, same_self}
 use Rattle.pit_fib.proofs.Tokenless.{step_knows}
+use Rattle.pit_fib.proofs.RecordTallies.{nacked_fewer}
 use Rattle.pit_fib.proofs.pit.Pit.nacked.Goals as goal
 use Rattle.pit_fib.proofs.pit.Pit.nacked.Goals.{After-change}
 
@@ -101,3 +102,6 @@ returns-clause-pending c =
 pub returns-clause-living : goal.returns-clause-living
 returns-clause-living c =
     let d = (goal.at.returns-clause-living c).After-change in holds_the_living c.change.new.self.table _ (step_alive (NackCame (plain_key c.args.key) c.args.face c.args.nonce c.args.reason) c.self.inside.rows.table c.change.new.self.table (steps d)) refl
+
+pub change-requires : goal.change-requires
+change-requires c = nacked_fewer _ c.args.face c.args.nonce c.args.reason

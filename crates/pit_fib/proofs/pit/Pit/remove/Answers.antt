@@ -12,6 +12,7 @@ use Rattle.pit_fib.proofs.PendingTables.{dead_after_removal}
 use Rattle.std.specs.Prelude.{Option, None, Some}
 use Rattle.pit_fib.proofs.PendingTables.{dead_none}
 use Rattle.pit_fib.proofs.Tokenless.{step_knows}
+use Rattle.pit_fib.proofs.RecordTallies.{removed_fewer}
 use Rattle.pit_fib.proofs.pit.Pit.remove.Goals as goal
 use Rattle.pit_fib.proofs.pit.Pit.remove.Goals.{After-change}
 
@@ -40,3 +41,6 @@ returns-clause-pending c =
 pub returns-clause-living : goal.returns-clause-living
 returns-clause-living c =
     holds_the_living c.change.new.self.table _ (step_alive (Removed (plain_key c.args.key)) c.self.inside.rows.table c.change.new.self.table (steps c)) refl
+
+pub change-requires : goal.change-requires
+change-requires c = removed_fewer _

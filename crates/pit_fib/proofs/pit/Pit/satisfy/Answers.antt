@@ -15,6 +15,7 @@ use Rattle.pit_fib.proofs.AskedFaces.{along_faces, along_rising, both_faces, bot
 use Rattle.pit_fib.proofs.PendingTables.{dead_after_data}
 use Rattle.pit_fib.proofs.SatisfiedTables.{full_absent, full_stays, full_taken, satisfied_steps}
 use Rattle.pit_fib.proofs.Tokenless.{bare_goes, step_knows}
+use Rattle.pit_fib.proofs.RecordTallies.{answered_fewer}
 use Rattle.pit_fib.proofs.pit.Pit.satisfy.Goals as goal
 use Rattle.pit_fib.proofs.pit.Pit.satisfy.Goals.{After-take_below, Else-asks_digest}
 
@@ -134,3 +135,9 @@ returns-else-asks_digest-clause-bare c = λ none f.
 pub returns-else-asks_digest-clause-living : goal.returns-else-asks_digest-clause-living
 returns-else-asks_digest-clause-living c =
     holds_the_living c.take_along-asks_digest.new.self.table _ (step_alive (Satisfied (components c.args.packet.now.name) (sha256 c.args.packet.now.whole.now)) c.self.inside.rows.table c.take_along-asks_digest.new.self.table (steps_along c)) refl
+
+pub take_along-asks_digest-requires : goal.take_along-asks_digest-requires
+take_along-asks_digest-requires c = λ is_own. answered_fewer is_own
+
+pub take_below-requires : goal.take_below-requires
+take_below-requires c = answered_fewer true

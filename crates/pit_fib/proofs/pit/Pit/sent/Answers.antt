@@ -19,6 +19,7 @@ use Rattle.pit_fib.proofs.PendingFaces.{grows_few, room_for_sent}
 use Rattle.pit_fib.proofs.PendingPlaces.{sent_elsewhere, sent_here}
 use Rattle.pit_fib.proofs.PendingTables.{same_self}
 use Rattle.pit_fib.proofs.Tokenless.{tokenless_after}
+use Rattle.pit_fib.proofs.RecordTallies.{fits_sent}
 use Rattle.pit_fib.proofs.pit.Pit.sent.Goals as goal
 use Rattle.pit_fib.proofs.pit.Pit.sent.Goals.{Joined-self-after}
 
@@ -132,3 +133,7 @@ returns-clause-ok c = subst (λ (p : Pending). Follows (SentTo (plain_key c.args
 
 pub returns-clause-living : goal.returns-clause-living
 returns-clause-living c = holds_the_living c.put_with.new.self.table _ (living c) refl
+
+pub put_with-requires : goal.put_with-requires
+put_with-requires c =
+    fits_sent c.self.inside.rows.table c.self.invariant.0 (plain_key c.args.key).name _ c.args.face _ c.in_ok-room.room

@@ -11,6 +11,7 @@ use Rattle.pit_fib.proofs.KeptTables.{Steps, holds_the_living, one_steps, step_a
 use Rattle.pit_fib.proofs.PendingTables.{dead_after_withdrawal}
 use Rattle.std.specs.Prelude.{Option}
 use Rattle.pit_fib.proofs.Tokenless.{step_knows}
+use Rattle.pit_fib.proofs.RecordTallies.{withdrawn_fewer}
 use Rattle.pit_fib.proofs.pit.Pit.withdraw.Goals as goal
 use Rattle.pit_fib.proofs.pit.Pit.withdraw.Goals.{After-change}
 
@@ -40,3 +41,6 @@ returns-clause-pending c =
 pub returns-clause-living : goal.returns-clause-living
 returns-clause-living c =
     holds_the_living c.change.new.self.table _ (step_alive (Withdrawn (plain_key c.args.key) c.args.face) c.self.inside.rows.table c.change.new.self.table (steps c)) refl
+
+pub change-requires : goal.change-requires
+change-requires c = withdrawn_fewer _ c.args.face

@@ -3,7 +3,7 @@ use Rattle.std.specs.FinMap.{len, len-empty}
 use Rattle.pit_fib.specs.Flags.{flags_cmp}
 use Rattle.pit_fib.specs.Kept.{Kept, Row}
 use Rattle.pit_fib.proofs.Rows.{no_slots}
-use Rattle.pit_fib.proofs.row.RowTimed.size.Goals as goal
+use Rattle.pit_fib.proofs.row.Row.count.Goals as goal
 
 pub returns-in-None : goal.returns-in-None
 returns-in-None c =

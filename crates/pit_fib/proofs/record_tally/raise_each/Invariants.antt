@@ -1,0 +1,9 @@
+use Rattle.std.proofs.Common.{◌≡◌, ◌+◌, ℕ, drop}
+use Rattle.pit_fib.specs.RecordTally.{ArePositive, found, number}
+use Rattle.pit_fib.proofs.record_tally.raise_each.Given as goal
+
+abbrev pub invariant-loop-row : goal.invariant-loop-row
+invariant-loop-row g l = record {
+  positive : ArePositive l.faces;
+  left : (f : ℕ) → number l.faces f + found (drop l.row-index l.rows) f ≡ number l.fn.faces f + found l.rows f;
+}
