@@ -1,8 +1,10 @@
-ghost use Rattle.std.specs.Prelude.{◌≡◌, ◌++◌, List, length, drop, Err, IfOk, IfErr, IsTrue, OnErr, IsOk, MatchOption, slice_get};
+ghost use Rattle.std.specs.Prelude.{◌≡◌, ◌++◌, false, List, length, drop, Err, IfOk, IfErr, IsTrue, OnErr, IsOk, MatchOption, slice_get};
 ghost use Rattle.key_files.specs.KeyFile.{NamedKey};
 ghost use Rattle.info_rules.specs.Rule.{PlainRule};
 ghost use Rattle.ndn_tlv.specs.Element.{Field};
 ghost use Rattle.content_store.specs.Store.{IsStore};
+ghost use Rattle.pit_fib.specs.Fib.{LeadsTo};
+ghost use Rattle.pit_fib.specs.Pit.{record_count};
 ghost use Rattle.forwarder.specs.Event.{plain, Send};
 ghost use Rattle.forwarder.specs.Node.{AsksNoMemory, IsStep};
 ghost use Rattle.forwarder.specs.Parts.{first_node, is_bad_prefix as is_bad_prefix_of, parts_fault};
@@ -173,6 +175,16 @@ impl Node {
         ensures { result ≡ slice_get self.now.policy.faces i }
     {
         self.state.faces.entry(i)
+    }
+
+    /// Returns whether closing the face may lose something: whether a pending Interest came from
+    /// the face, or the face may have a next hop or a route. If the result is false, the face has
+    /// neither. Takes constant time.
+    pub fn holds(&self, face: u64) -> bool
+        ensures asks { result ≡ false → record_count self.now.pending face ≡ 0 }
+        ensures leads { result ≡ false → LeadsTo self.now.policy.routes face → ⊥ }
+    {
+        self.state.pit.records_of(face) > 0 || self.state.tables.fib.may_lead_to(face)
     }
 
     /// Returns whether two nodes agree in the time, the repository's prefix, the open faces, the
