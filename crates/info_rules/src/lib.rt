@@ -39,7 +39,9 @@ pub use decision::{
     Decision, Reason, allowed_packets_name_their_signer, decisions_are_unique,
     no_packet_is_undecided,
 };
+pub use entry::Entry;
 pub use fault::{RulesFault, RulesFaultKind};
+pub use keys::{Key, Keys};
 pub use locator::{hierarchical_keys_match_a_pattern, hierarchical_text_spells_its_pattern};
 pub use packet::{Packet, read_packets_have_a_shape};
 pub use report::the_least_is_reported;
