@@ -1,0 +1,5 @@
+//! Tests of configuration files.
+#![tactic(auto)]
+
+#[cfg(test)]
+mod files;

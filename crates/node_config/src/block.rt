@@ -1,0 +1,68 @@
+//! The keys of blocks, and what each key must have.
+
+use crate::fault::{ConfigFault, ConfigFaultKind};
+use info_rules::{Key, Keys};
+
+/// Returns the fault of a key whose word is none of `words`, or of the first later key with the
+/// same word, or `None` if there is no such fault. `others` are the keys after `key`.
+fn key_fault(words: &[&str], key: Key<'_>, others: Keys<'_>) -> Option<ConfigFault>
+{
+    if !words.iter().any(|word| key.is(word)) {
+        return Some(ConfigFaultKind::UnknownKey.at(key.own.line));
+    }
+    let again = others.first_named(key.own.key.as_str())?;
+    Some(ConfigFaultKind::KeyTwice.at(again.own.line))
+}
+
+/// Checks that the word of each key is one of `words`, and that no two keys have the same word.
+/// Returns the fault of the first key that is unknown or given again. A key that is given again has
+/// its fault at the later line.
+pub fn check_keys(words: &[&str], keys: Keys<'_>) -> Result<(), ConfigFault>
+{
+    let mut left = keys;
+    while let Some((key, others)) = left.split_first() {
+        if let Some(fault) = key_fault(words, key, others) {
+            return Err(fault);
+        }
+        left = others;
+    }
+    Ok(())
+}
+
+/// Returns the keys in the block of the key `word`, or no keys if there is no such key. `keys` are
+/// the keys of the file. A key that has a value, or no block, has the fault `BadShape`.
+pub fn block_at<'a>(keys: Keys<'a>, word: &str) -> Result<Keys<'a>, ConfigFault>
+{
+    let Some(key) = keys.first_named(word) else {
+        return Ok(Keys {
+            depth: 1,
+            entries: &[],
+        });
+    };
+    if key.own.value.is_some() || !key.own.has_block {
+        return Err(ConfigFaultKind::BadShape.at(key.own.line));
+    }
+    Ok(key.keys(1))
+}
+
+/// Returns the line of the key `word`, or 0 if there is no such key.
+pub fn line_at(keys: Keys<'_>, word: &str) -> u32
+{
+    match keys.first_named(word) {
+        Some(key) => key.own.line,
+        None => 0,
+    }
+}
+
+/// Returns the line and the value of the key `word`, or `None` if there is no such key. A key that
+/// has no value, or a block, has the fault `BadShape`.
+pub fn text_at<'a>(keys: Keys<'a>, word: &str) -> Result<Option<(u32, &'a str)>, ConfigFault>
+{
+    let Some(key) = keys.first_named(word) else {
+        return Ok(None);
+    };
+    match key.value() {
+        Some(text) => Ok(Some((key.own.line, text))),
+        None => Err(ConfigFaultKind::BadShape.at(key.own.line)),
+    }
+}

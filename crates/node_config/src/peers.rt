@@ -1,0 +1,171 @@
+//! Reads the peers.
+
+use crate::block::{block_at, check_keys};
+use crate::config::{Peer, Scope};
+use crate::fault::{ConfigFault, ConfigFaultKind};
+use crate::value::value_or;
+use crate::words::face_uri_of;
+use info_rules::{Key, Keys};
+use std::alloc::Global;
+use std::net::SocketAddr;
+
+/// The greatest number of peers.
+const MAX_PEERS: usize = 64;
+
+/// The greatest length of a peer's name, in octets.
+const MAX_NAME: usize = 64;
+
+/// Returns whether the address is a loopback address, with which other machines cannot communicate.
+fn is_loopback(endpoint: &SocketAddr) -> bool
+{
+    endpoint.ip().is_loopback()
+}
+
+/// Returns whether the address is unspecified: 0.0.0.0 or ::.
+fn is_unspecified(endpoint: &SocketAddr) -> bool
+{
+    endpoint.ip().is_unspecified()
+}
+
+/// Returns whether the peer is the node itself, whose endpoint for UDP is `own`. If `own` has the
+/// unspecified address, a peer with a loopback address and the same port is the node itself.
+fn is_itself(own: &SocketAddr, peer: &SocketAddr) -> bool
+{
+    peer.port() == own.port()
+        && (peer.ip() == own.ip() || (is_unspecified(own) && is_loopback(peer)))
+}
+
+/// Returns whether the octet may be in a peer's name.
+fn is_name_octet(octet: u8) -> bool
+{
+    octet.is_ascii_alphanumeric() || matches!(octet, b'-' | b'_' | b'.')
+}
+
+/// Returns whether the text may be a peer's name.
+fn is_peer_name(text: &str) -> bool
+{
+    !text.is_empty()
+        && text.len() <= MAX_NAME
+        && text.as_bytes().iter().all(|octet| is_name_octet(*octet))
+}
+
+/// Returns the fault, unless `right` is true.
+fn unless(right: bool, fault: ConfigFault) -> Result<(), ConfigFault>
+{
+    if right { Ok(()) } else { Err(fault) }
+}
+
+/// Checks that a peer can follow the peers in `before`: the number of peers, and the peer's name.
+fn check_name(before: &[Peer], name: &str, line: u32) -> Result<(), ConfigFault>
+{
+    unless(
+        before.len() < MAX_PEERS,
+        ConfigFaultKind::TooManyPeers.at(line),
+    )?;
+    unless(is_peer_name(name), ConfigFaultKind::BadPeerName.at(line))?;
+    let is_new = before.iter().all(|peer| peer.name.as_str() != name);
+    unless(is_new, ConfigFaultKind::NameTwice.at(line))
+}
+
+/// Checks that a node with the endpoint `own` can have this peer after the peers in `before`.
+fn check_endpoint(
+    own: &SocketAddr,
+    before: &[Peer],
+    endpoint: &SocketAddr,
+    line: u32,
+) -> Result<(), ConfigFault>
+{
+    let is_new = before.iter().all(|peer| peer.endpoint != *endpoint);
+    unless(is_new, ConfigFaultKind::UriTwice.at(line))?;
+    unless(
+        !is_itself(own, endpoint),
+        ConfigFaultKind::OwnUri.at(line),
+    )?;
+    unless(
+        !is_unspecified(endpoint),
+        ConfigFaultKind::NoAddress.at(line),
+    )?;
+    unless(
+        endpoint.is_ipv4() == own.is_ipv4(),
+        ConfigFaultKind::OtherFamily.at(line),
+    )
+}
+
+/// Checks that a peer with this scope and this endpoint can follow the peers in `before`.
+fn check_scope(
+    before: &[Peer],
+    endpoint: &SocketAddr,
+    scope: Scope,
+    line: u32,
+) -> Result<(), ConfigFault>
+{
+    let is_far = matches!(scope, Scope::Far);
+    unless(
+        is_far || is_loopback(endpoint),
+        ConfigFaultKind::NotLoopback.at(line),
+    )?;
+    let none_is_far = before
+        .iter()
+        .all(|peer| matches!(peer.scope, Scope::Local));
+    unless(
+        is_far || none_is_far,
+        ConfigFaultKind::LocalAfterFar.at(line),
+    )
+}
+
+/// Reads the FaceUri of a peer.
+fn read_uri(key: Key<'_>) -> Result<SocketAddr, ConfigFault>
+{
+    let Some(uri) = key.own.value.as_deref() else {
+        return Err(ConfigFaultKind::BadShape.at(key.own.line));
+    };
+    match face_uri_of(uri) {
+        Some(endpoint) => Ok(endpoint),
+        None => Err(ConfigFaultKind::BadFaceUri.at(key.own.line)),
+    }
+}
+
+/// Reads the scope of a peer from the keys of its block: Far if there is no key `scope`.
+fn read_scope(keys: Keys<'_>) -> Result<Scope, ConfigFault>
+{
+    check_keys(&["scope"], keys)?;
+    value_or(keys, "scope", ConfigFaultKind::BadWord, Scope::Far)
+}
+
+/// Reads the endpoint and the scope of a peer that follows the peers in `before`.
+fn read_peer(
+    own: &SocketAddr,
+    before: &[Peer],
+    key: Key<'_>,
+) -> Result<(SocketAddr, Scope), ConfigFault>
+{
+    let line = key.own.line;
+    check_name(before, key.own.key.as_str(), line)?;
+    let endpoint = read_uri(key)?;
+    let scope = read_scope(key.keys(2))?;
+    check_endpoint(own, before, &endpoint, line)?;
+    check_scope(before, &endpoint, scope, line)?;
+    Ok((endpoint, scope))
+}
+
+/// Reads the block `peers` of a node with the endpoint `own`. `file` has the keys of the file.
+pub fn read_peers(
+    alloc: Global,
+    own: &SocketAddr,
+    file: Keys<'_>,
+) -> Result<Vec<Peer>, ConfigFault>
+{
+    let mut peers = Vec::new(alloc);
+    let mut left = block_at(file, "peers")?;
+    while let Some((key, others)) = left.split_first() {
+        let (endpoint, scope) = read_peer(own, &peers, key)?;
+        let name = String::from_str(alloc, key.own.key.as_str())?;
+        peers.push(Peer {
+            name,
+            endpoint,
+            scope,
+        })?;
+        left = others;
+    }
+    Ok(peers)
+}

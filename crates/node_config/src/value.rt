@@ -1,0 +1,77 @@
+//! The values that are read from texts.
+
+use crate::block::text_at;
+use crate::fault::{ConfigFault, ConfigFaultKind};
+use info_rules::Keys;
+use ndn_names::{NameBuf, NameFault};
+use std::alloc::Global;
+
+/// A value that a text can spell.
+pub trait Value: Drop {
+    /// Returns the value that the text spells, or `None` if it spells none.
+    fn of_text(text: &str) -> Option<Self>;
+}
+
+/// Reads the value of the key `word`. Returns `None` if there is no such key. A text that spells no
+/// value has a fault of the kind `kind`.
+pub fn value_at<V: Value>(
+    keys: Keys<'_>,
+    word: &str,
+    kind: ConfigFaultKind,
+) -> Result<Option<V>, ConfigFault>
+{
+    let Some((line, text)) = text_at(keys, word)? else {
+        return Ok(None);
+    };
+    match V::of_text(text) {
+        Some(value) => Ok(Some(value)),
+        None => Err(kind.at(line)),
+    }
+}
+
+/// Reads the value of the key `word`, or returns `default` if there is no such key.
+pub fn value_or<V: Value>(
+    keys: Keys<'_>,
+    word: &str,
+    kind: ConfigFaultKind,
+    default: V,
+) -> Result<V, ConfigFault>
+{
+    match value_at(keys, word, kind)? {
+        Some(value) => Ok(value),
+        None => Ok(default),
+    }
+}
+
+/// Reads the path that is the value of the key `word`. Returns `None` if there is no such key. An
+/// empty path has the fault `BadPath`.
+pub fn path_at(alloc: Global, keys: Keys<'_>, word: &str) -> Result<Option<String>, ConfigFault>
+{
+    let Some((line, text)) = text_at(keys, word)? else {
+        return Ok(None);
+    };
+    if text.is_empty() {
+        return Err(ConfigFaultKind::BadPath.at(line));
+    }
+    Ok(Some(String::from_str(alloc, text)?))
+}
+
+/// Reads the name that a URI spells. `line` is the line of the URI.
+fn name_of(alloc: Global, line: u32, uri: &str) -> Result<NameBuf, ConfigFault>
+{
+    match NameBuf::from_uri(alloc, uri) {
+        Ok(name) => Ok(name),
+        Err(NameFault::Memory) => Err(ConfigFaultKind::Memory.at(0)),
+        Err(_) => Err(ConfigFaultKind::BadPrefix.at(line)),
+    }
+}
+
+/// Reads the name whose URI is the value of the key `word`, or the name `/repo` if there is no such
+/// key. A text that is not the URI of a name has the fault `BadPrefix`.
+pub fn prefix_at(alloc: Global, keys: Keys<'_>, word: &str) -> Result<NameBuf, ConfigFault>
+{
+    match text_at(keys, word)? {
+        Some((line, text)) => name_of(alloc, line, text),
+        None => name_of(alloc, 0, "/repo"),
+    }
+}
