@@ -98,7 +98,7 @@ peers␊{␊}␊log␊{␊}␊listen { udp 1 } -> 127.0.0.1:1 None None false | 
 listen {␊udp 6363 -> 2 Syntax
 a␊a b c -> 2 Syntax
 a {␊{ -> 2 Syntax
-a␊{ b␊{ c␊{ d␊{ e␊{ f␊{ g␊{ h␊{ i␊{ -> 9 TooDeep
+a␊{ b␊{ c␊{ d␊{ e␊{ f␊{ g␊{ h␊{ i␊{␊ -> 10 TooDeep
 # Keys of the file: the first that is unknown or given again.
  -> 0 Missing
 ; nothing -> 0 Missing

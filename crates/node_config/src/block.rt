@@ -1,11 +1,19 @@
 //! The keys of blocks, and what each key must have.
 
+ghost use Rattle.std.specs.Prelude.{◌≡◌, map};
+ghost use Rattle.std.specs.Option.{option_map};
+ghost use Rattle.info_rules.specs.Shown.{key_of, keys_of};
+ghost use Rattle.node_config.specs.Keys.{block_in, key_fault, known_in, line_in, text_in};
+ghost use Rattle.node_config.specs.Reading.{seen_as};
+
 use crate::fault::{ConfigFault, ConfigFaultKind};
 use info_rules::{Key, Keys};
 
 /// Returns the fault of a key whose word is none of `words`, or of the first later key with the
 /// same word, or `None` if there is no such fault. `others` are the keys after `key`.
 fn key_fault(words: &[&str], key: Key<'_>, others: Keys<'_>) -> Option<ConfigFault>
+    ensures { result ≡ key_fault (map (λ word. word.now) words.now) (key_of key.entry)
+        (keys_of others.entry) }
 {
     if !words.iter().any(|word| key.is(word)) {
         return Some(ConfigFaultKind::UnknownKey.at(key.own.line));
@@ -18,6 +26,7 @@ fn key_fault(words: &[&str], key: Key<'_>, others: Keys<'_>) -> Option<ConfigFau
 /// Returns the fault of the first key that is unknown or given again. A key that is given again has
 /// its fault at the later line.
 pub fn check_keys(words: &[&str], keys: Keys<'_>) -> Result<(), ConfigFault>
+    ensures { result ≡ known_in (map (λ word. word.now) words.now) (keys_of keys.entry) }
 {
     let mut left = keys;
     while let Some((key, others)) = left.split_first() {
@@ -32,6 +41,7 @@ pub fn check_keys(words: &[&str], keys: Keys<'_>) -> Result<(), ConfigFault>
 /// Returns the keys in the block of the key `word`, or no keys if there is no such key. `keys` are
 /// the keys of the file. A key that has a value, or no block, has the fault `BadShape`.
 pub fn block_at<'a>(keys: Keys<'a>, word: &str) -> Result<Keys<'a>, ConfigFault>
+    ensures { seen_as keys_of result ≡ block_in word.now (keys_of keys.entry) }
 {
     let Some(key) = keys.first_named(word) else {
         return Ok(Keys {
@@ -47,6 +57,7 @@ pub fn block_at<'a>(keys: Keys<'a>, word: &str) -> Result<Keys<'a>, ConfigFault>
 
 /// Returns the line of the key `word`, or 0 if there is no such key.
 pub fn line_at(keys: Keys<'_>, word: &str) -> u32
+    ensures { result ≡ line_in word.now (keys_of keys.entry) }
 {
     match keys.first_named(word) {
         Some(key) => key.own.line,
@@ -57,6 +68,8 @@ pub fn line_at(keys: Keys<'_>, word: &str) -> u32
 /// Returns the line and the value of the key `word`, or `None` if there is no such key. A key that
 /// has no value, or a block, has the fault `BadShape`.
 pub fn text_at<'a>(keys: Keys<'a>, word: &str) -> Result<Option<(u32, &'a str)>, ConfigFault>
+    ensures { seen_as (option_map (λ text. (text.0, text.1.now))) result
+        ≡ text_in word.now (keys_of keys.entry) }
 {
     let Some(key) = keys.first_named(word) else {
         return Ok(None);

@@ -13,3 +13,4 @@ mod words;
 
 pub use config::{Config, Files, Limits, Listen, Log, LogLevel, Peer, Scope};
 pub use fault::{ConfigFault, ConfigFaultKind};
+pub use reader::configurations_have_one_reading;

@@ -1,5 +1,12 @@
 //! Reads the peers.
 
+ghost use Rattle.std.specs.Prelude.{◌↔◌, IsTrue, map};
+ghost use Rattle.info_rules.specs.Shown.{key_of, keys_of};
+ghost use Rattle.node_config.specs.Endpoint.{IsItself, IsLoopback, IsUnspecified};
+ghost use Rattle.node_config.specs.Peers.{EndpointOf, IsNameOctet, IsPeerName, NameOf, PeerOf, PeersOf, PlaceOf, ScopeOf, UriOf};
+ghost use Rattle.node_config.specs.Plain.{plain_peer};
+ghost use Rattle.node_config.specs.Reading.{Meets, Needs};
+
 use crate::block::{block_at, check_keys};
 use crate::config::{Peer, Scope};
 use crate::fault::{ConfigFault, ConfigFaultKind};
@@ -17,12 +24,14 @@ const MAX_NAME: usize = 64;
 
 /// Returns whether the address is a loopback address, with which other machines cannot communicate.
 fn is_loopback(endpoint: &SocketAddr) -> bool
+    ensures { IsTrue result ↔ IsLoopback endpoint.now }
 {
     endpoint.ip().is_loopback()
 }
 
 /// Returns whether the address is unspecified: 0.0.0.0 or ::.
 fn is_unspecified(endpoint: &SocketAddr) -> bool
+    ensures { IsTrue result ↔ IsUnspecified endpoint.now }
 {
     endpoint.ip().is_unspecified()
 }
@@ -30,6 +39,7 @@ fn is_unspecified(endpoint: &SocketAddr) -> bool
 /// Returns whether the peer is the node itself, whose endpoint for UDP is `own`. If `own` has the
 /// unspecified address, a peer with a loopback address and the same port is the node itself.
 fn is_itself(own: &SocketAddr, peer: &SocketAddr) -> bool
+    ensures { IsTrue result ↔ IsItself own.now peer.now }
 {
     peer.port() == own.port()
         && (peer.ip() == own.ip() || (is_unspecified(own) && is_loopback(peer)))
@@ -37,12 +47,14 @@ fn is_itself(own: &SocketAddr, peer: &SocketAddr) -> bool
 
 /// Returns whether the octet may be in a peer's name.
 fn is_name_octet(octet: u8) -> bool
+    ensures { IsTrue result ↔ IsNameOctet octet }
 {
     octet.is_ascii_alphanumeric() || matches!(octet, b'-' | b'_' | b'.')
 }
 
 /// Returns whether the text may be a peer's name.
 fn is_peer_name(text: &str) -> bool
+    ensures { IsTrue result ↔ IsPeerName text.now }
 {
     !text.is_empty()
         && text.len() <= MAX_NAME
@@ -51,12 +63,14 @@ fn is_peer_name(text: &str) -> bool
 
 /// Returns the fault, unless `right` is true.
 fn unless(right: bool, fault: ConfigFault) -> Result<(), ConfigFault>
+    ensures { Needs (IsTrue right) fault result }
 {
     if right { Ok(()) } else { Err(fault) }
 }
 
 /// Checks that a peer can follow the peers in `before`: the number of peers, and the peer's name.
 fn check_name(before: &[Peer], name: &str, line: u32) -> Result<(), ConfigFault>
+    ensures { NameOf (map plain_peer before.now) name.now line result }
 {
     unless(
         before.len() < MAX_PEERS,
@@ -74,6 +88,7 @@ fn check_endpoint(
     endpoint: &SocketAddr,
     line: u32,
 ) -> Result<(), ConfigFault>
+    ensures { EndpointOf own.now (map plain_peer before.now) endpoint.now line result }
 {
     let is_new = before.iter().all(|peer| peer.endpoint != *endpoint);
     unless(is_new, ConfigFaultKind::UriTwice.at(line))?;
@@ -98,6 +113,7 @@ fn check_scope(
     scope: Scope,
     line: u32,
 ) -> Result<(), ConfigFault>
+    ensures { PlaceOf (map plain_peer before.now) endpoint.now scope line result }
 {
     let is_far = matches!(scope, Scope::Far);
     unless(
@@ -115,6 +131,7 @@ fn check_scope(
 
 /// Reads the FaceUri of a peer.
 fn read_uri(key: Key<'_>) -> Result<SocketAddr, ConfigFault>
+    ensures { UriOf (key_of key.entry) result }
 {
     let Some(uri) = key.own.value.as_deref() else {
         return Err(ConfigFaultKind::BadShape.at(key.own.line));
@@ -127,6 +144,7 @@ fn read_uri(key: Key<'_>) -> Result<SocketAddr, ConfigFault>
 
 /// Reads the scope of a peer from the keys of its block: Far if there is no key `scope`.
 fn read_scope(keys: Keys<'_>) -> Result<Scope, ConfigFault>
+    ensures { ScopeOf (keys_of keys.entry) result }
 {
     check_keys(&["scope"], keys)?;
     value_or(keys, "scope", ConfigFaultKind::BadWord, Scope::Far)
@@ -138,6 +156,7 @@ fn read_peer(
     before: &[Peer],
     key: Key<'_>,
 ) -> Result<(SocketAddr, Scope), ConfigFault>
+    ensures { PeerOf own.now (map plain_peer before.now) (key_of key.entry) result }
 {
     let line = key.own.line;
     check_name(before, key.own.key.as_str(), line)?;
@@ -154,6 +173,8 @@ pub fn read_peers(
     own: &SocketAddr,
     file: Keys<'_>,
 ) -> Result<Vec<Peer>, ConfigFault>
+    ensures { Meets (PeersOf own.now (keys_of file.entry)) (λ peers. map plain_peer peers.items)
+        result }
 {
     let mut peers = Vec::new(alloc);
     let mut left = block_at(file, "peers")?;

@@ -1,5 +1,11 @@
 //! Reads the blocks and keys of the file, except the peers.
 
+ghost use Rattle.std.specs.Prelude.{◌≡◌, map};
+ghost use Rattle.info_rules.specs.Shown.{keys_of};
+ghost use Rattle.node_config.specs.Plain.{plain_files, plain_listen};
+ghost use Rattle.node_config.specs.Reading.{Meets, seen_as};
+ghost use Rattle.node_config.specs.Sections.{BlockOf, CacheOf, FilesOf, LimitsOf, ListenOf, LogOf, RepositoryOf, UdpOf};
+
 use crate::block::{block_at, check_keys, line_at};
 use crate::config::{Files, Limits, Listen, Log, LogLevel};
 use crate::fault::{ConfigFault, ConfigFaultKind};
@@ -13,8 +19,24 @@ use std::net::SocketAddr;
 /// The number of turns of a node without the key `turns`.
 const MOST_TURNS: u64 = 18_446_744_073_709_551_615;
 
+/// Returns the keys of the file's block `word`, or no keys if there is no such block. Each key of the
+/// block is one of `words`, and is given once. `file` has the keys of the file.
+fn block_with<'a>(
+    file: Keys<'a>,
+    word: &str,
+    words: &[&str],
+) -> Result<Keys<'a>, ConfigFault>
+    ensures { BlockOf word.now (map (λ word. word.now) words.now) (keys_of file.entry)
+        (seen_as keys_of result) }
+{
+    let keys = block_at(file, word)?;
+    check_keys(words, keys)?;
+    Ok(keys)
+}
+
 /// Reads the endpoint for UDP from the keys of the block `listen`, which has the line `line`.
 fn read_udp(line: u32, keys: Keys<'_>) -> Result<SocketAddr, ConfigFault>
+    ensures { UdpOf line (keys_of keys.entry) result }
 {
     match value_at(keys, "udp", ConfigFaultKind::BadEndpoint)? {
         Some(endpoint) => Ok(endpoint),
@@ -24,9 +46,9 @@ fn read_udp(line: u32, keys: Keys<'_>) -> Result<SocketAddr, ConfigFault>
 
 /// Reads the block `listen`. `file` has the keys of the file.
 pub fn read_listen(alloc: Global, file: Keys<'_>) -> Result<Listen, ConfigFault>
+    ensures { Meets (ListenOf (keys_of file.entry)) plain_listen result }
 {
-    let keys = block_at(file, "listen")?;
-    check_keys(&["udp", "tcp", "unix", "strangers"], keys)?;
+    let keys = block_with(file, "listen", &["udp", "tcp", "unix", "strangers"])?;
     let udp = read_udp(line_at(file, "listen"), keys)?;
     let tcp = value_at(keys, "tcp", ConfigFaultKind::BadEndpoint)?;
     let unix = path_at(alloc, keys, "unix")?;
@@ -41,6 +63,7 @@ pub fn read_listen(alloc: Global, file: Keys<'_>) -> Result<Listen, ConfigFault>
 
 /// Reads the paths of the keys `rules`, `keys` and `journal`. `file` has the keys of the file.
 pub fn read_files(alloc: Global, file: Keys<'_>) -> Result<Files, ConfigFault>
+    ensures { Meets (FilesOf (keys_of file.entry)) plain_files result }
 {
     let rules = path_at(alloc, file, "rules")?;
     let keys = path_at(alloc, file, "keys")?;
@@ -54,26 +77,26 @@ pub fn read_files(alloc: Global, file: Keys<'_>) -> Result<Files, ConfigFault>
 
 /// Reads the block `repository`. `file` has the keys of the file.
 pub fn read_repository(alloc: Global, file: Keys<'_>) -> Result<NameBuf, ConfigFault>
+    ensures { Meets (RepositoryOf (keys_of file.entry)) (λ name. name) result }
 {
-    let keys = block_at(file, "repository")?;
-    check_keys(&["prefix"], keys)?;
+    let keys = block_with(file, "repository", &["prefix"])?;
     prefix_at(alloc, keys, "prefix")
 }
 
 /// Reads the block `cache`. `file` has the keys of the file.
 fn read_cache(file: Keys<'_>) -> Result<Capacity, ConfigFault>
+    ensures { CacheOf (keys_of file.entry) result }
 {
-    let keys = block_at(file, "cache")?;
-    check_keys(&["capacity"], keys)?;
+    let keys = block_with(file, "cache", &["capacity"])?;
     value_or(keys, "capacity", ConfigFaultKind::BadNumber, Capacity(1024))
 }
 
 /// Reads the blocks `cache` and `limits`. `file` has the keys of the file.
 pub fn read_limits(file: Keys<'_>) -> Result<Limits, ConfigFault>
+    ensures { LimitsOf (keys_of file.entry) result }
 {
     let cache = read_cache(file)?;
-    let keys = block_at(file, "limits")?;
-    check_keys(&["idle_timeout", "turns"], keys)?;
+    let keys = block_with(file, "limits", &["idle_timeout", "turns"])?;
     let idle = value_or(keys, "idle_timeout", ConfigFaultKind::BadNumber, Seconds(600))?;
     let turns = value_or(keys, "turns", ConfigFaultKind::BadNumber, Turns(MOST_TURNS))?;
     Ok(Limits {
@@ -85,9 +108,9 @@ pub fn read_limits(file: Keys<'_>) -> Result<Limits, ConfigFault>
 
 /// Reads the block `log`. `file` has the keys of the file.
 pub fn read_log(file: Keys<'_>) -> Result<Log, ConfigFault>
+    ensures { LogOf (keys_of file.entry) result }
 {
-    let keys = block_at(file, "log")?;
-    check_keys(&["level", "answers"], keys)?;
+    let keys = block_with(file, "log", &["level", "answers"])?;
     let level = value_or(keys, "level", ConfigFaultKind::BadWord, LogLevel::None)?;
     let answers = value_or(keys, "answers", ConfigFaultKind::BadWord, Consent(true))?;
     Ok(Log {

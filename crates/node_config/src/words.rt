@@ -1,11 +1,17 @@
 //! Texts that spell endpoints, FaceUris, numbers and words.
 
+ghost use Rattle.std.specs.Prelude.{ℕ, MatchOption};
+ghost use Rattle.node_config.specs.Endpoint.{IsEndpoint, IsPort};
+ghost use Rattle.node_config.specs.FaceUri.{IsFaceUri, IsUdp4, IsUdp6};
+ghost use Rattle.node_config.specs.Words.{IsCapacity, IsConsent, IsLevel, IsScope, IsSeconds, IsTurns};
+
 use crate::config::{LogLevel, Scope};
 use crate::value::Value;
 use std::net::{IpAddr, Ipv4Addr, SocketAddr, SocketAddrV4, SocketAddrV6};
 
 /// Reads a port from 1 to 65,535 in decimal digits. Leading zeros are allowed.
 fn port_of(digits: &str) -> Option<u16>
+    ensures { MatchOption result ((n : ℕ) → IsPort digits.now n → ⊥) (IsPort digits.now) }
 {
     // `parse` would accept a plus sign before the digits.
     if !digits.starts_with('+')
@@ -18,6 +24,8 @@ fn port_of(digits: &str) -> Option<u16>
 }
 
 impl Value for SocketAddr {
+    ghost spells = { IsEndpoint };
+
     /// Reads an address and a port. A port alone stands for the address 127.0.0.1 with this port.
     fn of_text(text: &str) -> Option<SocketAddr>
     {
@@ -35,7 +43,8 @@ impl Value for SocketAddr {
 }
 
 /// Reads the address and the port after `udp4://`.
-fn udp4_of(text: &str) -> Option<SocketAddr>
+fn udp4_of(text: &str) -> Option<SocketAddrV4>
+    ensures { MatchOption result ((x : SocketAddrV4) → IsUdp4 text.now x → ⊥) (IsUdp4 text.now) }
 {
     let Ok(endpoint) = text.parse::<SocketAddrV4>() else {
         return None;
@@ -43,11 +52,12 @@ fn udp4_of(text: &str) -> Option<SocketAddr>
     if endpoint.port() == 0 {
         return None;
     }
-    Some(SocketAddr::V4(endpoint))
+    Some(endpoint)
 }
 
 /// Reads the address in brackets and the port after `udp6://`. A scope identifier is refused.
-fn udp6_of(text: &str) -> Option<SocketAddr>
+fn udp6_of(text: &str) -> Option<SocketAddrV6>
+    ensures { MatchOption result ((x : SocketAddrV6) → IsUdp6 text.now x → ⊥) (IsUdp6 text.now) }
 {
     let Ok(endpoint) = text.parse::<SocketAddrV6>() else {
         return None;
@@ -55,18 +65,26 @@ fn udp6_of(text: &str) -> Option<SocketAddr>
     if endpoint.port() == 0 || endpoint.scope_id() != 0 {
         return None;
     }
-    Some(SocketAddr::V6(endpoint))
+    Some(endpoint)
 }
 
 /// Reads a FaceUri of a UDP face, as NFD writes it: `udp4://192.0.2.1:6363` or
 /// `udp6://[2001:db8::1]:6363` (NFD wiki, "FaceUri").
 pub fn face_uri_of(text: &str) -> Option<SocketAddr>
+    ensures { MatchOption result ((x : SocketAddr) → IsFaceUri text.now x → ⊥)
+        (IsFaceUri text.now) }
 {
     if let Some(rest) = text.strip_prefix("udp4://") {
-        return udp4_of(rest);
+        return match udp4_of(rest) {
+            Some(endpoint) => Some(SocketAddr::V4(endpoint)),
+            None => None,
+        };
     }
     if let Some(rest) = text.strip_prefix("udp6://") {
-        return udp6_of(rest);
+        return match udp6_of(rest) {
+            Some(endpoint) => Some(SocketAddr::V6(endpoint)),
+            None => None,
+        };
     }
     None
 }
@@ -76,6 +94,8 @@ pub fn face_uri_of(text: &str) -> Option<SocketAddr>
 pub struct Capacity(pub u32);
 
 impl Value for Capacity {
+    ghost spells = { IsCapacity };
+
     fn of_text(digits: &str) -> Option<Capacity>
     {
         if !digits.starts_with('+')
@@ -94,6 +114,8 @@ impl Value for Capacity {
 pub struct Seconds(pub u32);
 
 impl Value for Seconds {
+    ghost spells = { IsSeconds };
+
     fn of_text(digits: &str) -> Option<Seconds>
     {
         if !digits.starts_with('+')
@@ -111,6 +133,8 @@ impl Value for Seconds {
 pub struct Turns(pub u64);
 
 impl Value for Turns {
+    ghost spells = { IsTurns };
+
     fn of_text(digits: &str) -> Option<Turns>
     {
         if !digits.starts_with('+')
@@ -123,6 +147,8 @@ impl Value for Turns {
 }
 
 impl Value for LogLevel {
+    ghost spells = { IsLevel };
+
     fn of_text(text: &str) -> Option<LogLevel>
     {
         match text {
@@ -135,6 +161,8 @@ impl Value for LogLevel {
 }
 
 impl Value for Scope {
+    ghost spells = { IsScope };
+
     fn of_text(text: &str) -> Option<Scope>
     {
         match text {
@@ -150,6 +178,8 @@ impl Value for Scope {
 pub struct Consent(pub bool);
 
 impl Value for Consent {
+    ghost spells = { IsConsent };
+
     fn of_text(text: &str) -> Option<Consent>
     {
         match text {

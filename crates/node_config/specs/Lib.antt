@@ -1,0 +1,11 @@
+pub mod Faults
+pub mod Reading
+pub mod Keys
+pub mod Endpoint
+pub mod FaceUri
+pub mod Words
+pub mod Plain
+pub mod Values
+pub mod Sections
+pub mod Peers
+pub mod File
