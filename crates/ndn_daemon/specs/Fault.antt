@@ -7,18 +7,25 @@ use Rattle.info_rules.specs.Names.{fault_name}
 use Rattle.info_rules.specs.declared.fault.RulesFaultKind.{RulesFaultKind}
 use Rattle.info_rules.specs.declared.fault.RulesFaultKind.TheVariants as kinds
 use Rattle.forwarder.specs.declared.node.NodeFault.TheVariants.{BadRepoPrefix, BadCapacity, Memory as NodeMemory}
+use Rattle.node_config.specs.Faults.{fault_name as config_fault_name}
+use Rattle.node_config.specs.declared.fault.ConfigFaultKind.{ConfigFaultKind}
+use Rattle.node_config.specs.declared.fault.ConfigFaultKind.TheVariants as config_kinds
 use Rattle.node_core.specs.declared.script.RunFault.{RunFault}
 use Rattle.node_core.specs.declared.script.RunFault.TheVariants.{BadLine, Read, Write, Node, Memory}
 use Rattle.file_faults.specs.Advice.{cause_of, key_text}
-use Rattle.ndn_daemon.specs.Advice.{advice_on_rules, is_memory}
+use Rattle.ndn_daemon.specs.Advice.{advice_on_config, advice_on_rules, is_memory}
 use Rattle.ndn_daemon.specs.declared.fault.Fault.{Fault}
-use Rattle.ndn_daemon.specs.declared.fault.Fault.TheVariants.{CommandLine, BadValue, NotText, Unread, Rules, Keys, LargeKeys, Script, Unbound, UnboundTcp, UnboundUnix, Unreceived, Journal}
+use Rattle.ndn_daemon.specs.declared.fault.Fault.TheVariants.{CommandLine, BadValue, NotText, Unread, Config, Rules, Keys, LargeKeys, Script, Unbound, UnboundTcp, UnboundUnix, Unreceived, Journal}
 use Rattle.ndn_daemon.specs.declared.fault.JournalFault.{JournalFault}
 use Rattle.ndn_daemon.specs.declared.fault.JournalFault.TheVariants as journal
 
 abbrev pub rules_status : RulesFaultKind → ℕ
 rules_status kinds.Memory = 3
 rules_status kind = 1
+
+abbrev pub config_status : ConfigFaultKind → ℕ
+config_status config_kinds.Memory = 3
+config_status kind = 1
 
 -- the exit status: 1 for a fault in a file or in the script, 2 for a wrong command line, 3 if
 -- reading, writing, a lock, the port or memory failed
@@ -27,6 +34,7 @@ status_of (CommandLine error) = 2
 status_of (BadValue place wanted) = 2
 status_of NotText = 2
 status_of (Unread file path kind) = 3
+status_of (Config fault) = config_status fault.kind
 status_of (Rules fault) = rules_status fault.kind
 status_of (Keys (BadKeyLine line)) = 1
 status_of (Keys (BadKey line)) = 1
@@ -60,6 +68,12 @@ rules_fault_text line kind =
     if is_memory kind then codes "error: out of memory\n"
     else codes "rules:" ++ decimal line ++ codes ": " ++ fault_name kind ++ codes "\n  "
     ++ advice_on_rules line kind ++ codes "\n"
+
+-- the message for a fault of a configuration file: as for a rule file
+abbrev pub config_fault_text : ℕ → ConfigFaultKind → List ℕ
+config_fault_text line config_kinds.Memory = codes "error: out of memory\n"
+config_fault_text line kind = codes "config:" ++ decimal line ++ codes ": "
+    ++ config_fault_name kind ++ codes "\n  " ++ advice_on_config line kind ++ codes "\n"
 
 abbrev pub run_fault_text : RunFault → List ℕ
 run_fault_text (BadLine line) = codes "script:" ++ (decimal line ++ (codes ": bad line\n  "
@@ -101,6 +115,7 @@ text_of (BadValue place wanted) = Some (
 text_of NotText = Some (codes "error: an argument is not UTF-8 text\n")
 text_of (Unread file path kind) = Some (codes "error: the " ++ (file.now ++ (codes " "
     ++ (string_bytes path ++ (codes " cannot be read: " ++ (cause_of kind ++ codes "\n"))))))
+text_of (Config fault) = Some (config_fault_text fault.line fault.kind)
 text_of (Rules fault) = Some (rules_fault_text fault.line fault.kind)
 text_of (Keys fault) = Some (key_text fault)
 text_of LargeKeys = Some (codes "keys:0: TooLarge\n  at most 8388608 octets are allowed\n")

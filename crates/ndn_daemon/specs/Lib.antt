@@ -15,3 +15,4 @@ pub mod Journal
 pub mod Restart
 pub mod Program
 pub mod Command
+pub mod Configuration

@@ -2,10 +2,10 @@
 ghost use Rattle.std.specs.Prelude.{◌≡◌, IfErr, IfOk};
 ghost use Rattle.clap.specs.Words.{kind_of};
 ghost use Rattle.ndn_daemon.specs.Options.{ReadsInMemory, rows_in};
-ghost use Rattle.ndn_daemon.specs.Command.{HasFewPeers, IsAsked, IsFaultOfWords, IsRequest, reading_of};
+ghost use Rattle.ndn_daemon.specs.Command.{HasFewPeers, IsAsked, IsFaultOfWords, IsPathOf, IsRequest, reading_of};
 
 use crate::fault::Fault;
-use crate::options::{Options, ShorteningOptions};
+use crate::options::{Options, ShorteningOptions, given_or, value};
 use crate::udp_options::UdpOptions;
 use clap::error::ErrorKind;
 use clap::{Arg, ArgAction, ArgMatches, Command, Error};
@@ -22,6 +22,10 @@ pub enum Request {
     Script(Options),
     /// Run a node on a port.
     Udp(Options, UdpOptions),
+    /// Run the node that the configuration file at this path configures.
+    Run(String),
+    /// Check the configuration file at this path, and the files that it names.
+    Check(String),
     /// Shorten a journal.
     Shorten(ShorteningOptions),
 }
@@ -145,6 +149,53 @@ Exit status:
   3  a file cannot be read; the port, output or the journal failed; or memory ran out outside an
      event";
 
+const ABOUT_RUN: &str = "Runs the node that a configuration file describes";
+
+const AFTER_RUN: &str = "The node does what `ndn_node udp` does with the options that CONFIG stands for.
+
+CONFIG has entries as a rule file: on each line a key, a key and its value, or a brace. A semicolon
+begins a comment. The least file says where the node listens:
+  listen
+  {
+    udp 6363
+  }
+docs/CONFIG.md has a whole file. The keys, and what they stand for:
+  listen      udp ENDPOINT (--listen), tcp ENDPOINT (--tcp), unix PATH (--unix),
+              strangers yes|no (--open)
+  rules PATH, keys PATH, journal PATH
+              as the options
+  repository  prefix URI (--repo)
+  cache       capacity N (--cache)
+  limits      idle_timeout SECONDS (--idle), turns N (--turns)
+  log         level none|events|all (--log), answers yes|no (no is --quiet)
+  peers       for each peer NAME FACEURI, and perhaps a block with scope local|far (far if absent).
+              A FaceUri is udp4://192.0.2.1:6363 or udp6://[2001:db8::1]:6363. The peers have the
+              faces 1, 2 and so on. Local peers come before Far ones
+All but udp may be absent. Then the node has the default of `ndn_node udp`; without turns it runs
+until it is stopped. A path that does not begin with / is taken from the folder of CONFIG.
+
+Exit status:
+  0  the node has taken its turns
+  1  a file has a fault; standard error has `config:LINE: KIND`, `rules:LINE: KIND`,
+     `keys:LINE: KIND` or `journal:LINE: KIND`, and then a line that explains the fault
+  2  the command line is wrong, or the repository's prefix is not allowed
+  3  a file cannot be read; the port, output or the journal failed; or memory ran out outside an
+     event";
+
+const ABOUT_CHECK: &str = "Checks a configuration file, and the rules and keys that it names";
+
+const AFTER_CHECK: &str = "The program reads CONFIG, and the rule file and the key file that it names, as `ndn_node run CONFIG`
+does when it starts. It starts no node, and neither binds a port nor opens the journal. If there is
+no fault, it prints what it has read, such as `node.conf: 3 peers, 4 rules, 2 keys`. Of several
+faults it reports the first.
+
+Exit status:
+  0  there is no fault
+  1  a file has a fault; standard error has `config:LINE: KIND`, `rules:LINE: KIND` or
+     `keys:LINE: KIND`, and then a line that explains the fault
+  2  the command line is wrong, or the repository's prefix is not allowed
+  3  a file cannot be read, output failed, or memory ran out";
+
 const ABOUT_JOURNAL: &str = "Shortens a journal: leaves out the lines that a node no longer needs";
 
 const AFTER_JOURNAL: &str =
@@ -173,8 +224,8 @@ Exit status:
   3  the journal is in use, a file or output failed, or memory ran out";
 
 const AFTER: &str =
-    "`ndn_node script --help`, `ndn_node udp --help` and `ndn_node journal --help` describe the
-subcommands.
+    "`ndn_node script --help`, `ndn_node udp --help`, `ndn_node run --help`, `ndn_node check --help` and
+`ndn_node journal --help` describe the subcommands.
 
 Exit status:
   0  the job is done
@@ -214,11 +265,22 @@ fn named_request(alloc: Global, name: &str, found: &ArgMatches<'_>) -> Result<Re
     if name == "udp" {
         let node = Options::read(alloc, found)?;
         Ok(Request::Udp(node, UdpOptions::read(alloc, found)?))
+    } else if name == "run" {
+        Ok(Request::Run(config_path(alloc, found)?))
+    } else if name == "check" {
+        Ok(Request::Check(config_path(alloc, found)?))
     } else if name == "journal" {
         Ok(Request::Shorten(ShorteningOptions::read(alloc, found)?))
     } else {
         Ok(Request::Script(Options::read(alloc, found)?))
     }
+}
+
+/// Returns the path of the configuration file. The parser refuses a command line without it.
+fn config_path(alloc: Global, found: &ArgMatches<'_>) -> Result<String, Fault>
+    ensures { ReadsInMemory (IsPathOf (rows_in found.now)) result }
+{
+    Ok(String::from_str(alloc, given_or("", value(found, "CONFIG")))?)
 }
 
 /// Returns whether one of the arguments is `--`.
@@ -246,6 +308,8 @@ fn command<'a>(alloc: Global) -> Result<Command<'a>, AllocError> {
         .arg_required_else_help(true)
         .subcommand(script_command(alloc)?)?
         .subcommand(udp_command(alloc)?)?
+        .subcommand(config_command(alloc, "run", ABOUT_RUN, AFTER_RUN)?)?
+        .subcommand(config_command(alloc, "check", ABOUT_CHECK, AFTER_CHECK)?)?
         .subcommand(journal_command(alloc)?)
 }
 
@@ -310,6 +374,23 @@ fn udp_command<'a>(alloc: Global) -> Result<Command<'a>, AllocError> {
             "Also listens on a Unix socket with this path, for programs of its owner",
         ))?;
     with_node(alloc, command)?.arg(peers(alloc))
+}
+
+/// Returns a subcommand with the path of a configuration file.
+fn config_command<'a>(
+    alloc: Global,
+    name: &'a str,
+    about: &'a str,
+    after: &'a str,
+) -> Result<Command<'a>, AllocError> {
+    Command::new(alloc, name)
+        .about(about)
+        .after_help(after)
+        .arg(
+            Arg::new(alloc, "CONFIG")
+                .required(true)
+                .help("The configuration file"),
+        )
 }
 
 fn journal_command<'a>(alloc: Global) -> Result<Command<'a>, AllocError> {

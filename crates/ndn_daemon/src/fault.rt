@@ -1,8 +1,9 @@
 //! The faults of the program, with their messages and exit statuses.
-use crate::advice::{advice_on_rules, is_memory};
+use crate::advice::{advice_on_config, advice_on_rules, is_memory};
 use file_faults::{KeyMessage, cause_of};
 use info_rules::{RulesFault, RulesFaultKind};
 use key_files::KeyFault;
+use node_config::{ConfigFault, ConfigFaultKind};
 use node_core::{NodeFault, RunFault};
 use std::alloc::AllocError;
 use std::fmt;
@@ -32,6 +33,8 @@ pub enum Fault {
         /// The kind of the error that occurred.
         kind: ErrorKind,
     },
+    /// The configuration file has a fault, or memory ran out for its configuration.
+    Config(ConfigFault),
     /// The rule file has a fault, or memory ran out for its rules.
     Rules(RulesFault),
     /// The key file has a fault, or memory ran out for its keys.
@@ -97,6 +100,12 @@ impl Fault {
             | Fault::BadValue { .. }
             | Fault::NotText
             | Fault::Script(RunFault::Node(NodeFault::BadRepoPrefix | NodeFault::BadCapacity)) => 2,
+            Fault::Config(ConfigFault { kind, .. }) => {
+                match kind {
+                    ConfigFaultKind::Memory => 3,
+                    _ => 1,
+                }
+            }
             Fault::Rules(RulesFault { kind, .. }) => {
                 match kind {
                     RulesFaultKind::Memory => 3,
@@ -173,6 +182,16 @@ impl fmt::Display for Fault {
                     cause_of(*kind)
                 )
             }
+            Fault::Config(ConfigFault {
+                kind: ConfigFaultKind::Memory,
+                ..
+            }) => f.write_str("error: out of memory\n"),
+            Fault::Config(ConfigFault { line, kind }) => writeln!(
+                f,
+                "config:{line}: {}\n  {}",
+                kind.name(),
+                advice_on_config(*line, *kind)
+            ),
             Fault::Rules(fault) if is_memory(fault.kind) => f.write_str("error: out of memory\n"),
             Fault::Rules(RulesFault { line, kind }) => writeln!(
                 f,

@@ -94,6 +94,14 @@ pub fn unread_keys(alloc: Global, path: &str, error: &io::Error) -> Fault
     unread(alloc, "key file", path, error.kind())
 }
 
+/// Returns the fault of a configuration file that cannot be opened or read.
+pub fn unread_config(alloc: Global, path: &str, error: &io::Error) -> Fault
+    ensures file { IsUnread (codes "configuration file") path.now result }
+    ensures cause { HasCause (error_kind error.now) result }
+{
+    unread(alloc, "configuration file", path, error.kind())
+}
+
 /// Returns the fault of a journal that cannot be opened, locked, read or truncated.
 pub fn unread_journal(alloc: Global, path: &str, error: &io::Error) -> Fault
     ensures file { IsUnread (codes "journal") path.now result }

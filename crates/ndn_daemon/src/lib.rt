@@ -4,6 +4,7 @@
 
 mod advice;
 mod command;
+mod configuration;
 mod disk_journal;
 mod event_log;
 mod fault;
@@ -22,6 +23,7 @@ mod udp_options;
 mod watched_ports;
 
 pub use command::{Request, request_of};
+pub use configuration::{options_of, read_config_file, read_configuration};
 pub use disk_journal::DiskJournal;
 pub use event_log::{EventLog, LogSink};
 pub use fault::{Fault, JournalFault};

@@ -1,13 +1,14 @@
-//! A Named Data Networking node: it runs a script, serves a UDP port, or shortens a journal.
+//! A Named Data Networking node: it runs a script, serves a UDP port, checks a configuration, or
+//! shortens a journal.
 #![tactic(auto)]
 
 ghost use Rattle.std.specs.Prelude.{◌≤◌, length};
 
 use ndn_daemon::{
-    Fault, MachineClock, Options, Request, RuleFiles, UdpOptions, report_fault, request_of,
-    run_on_port, shorten_file,
+    Fault, MachineClock, Options, Request, RuleFiles, UdpOptions, read_configuration,
+    report_fault, request_of, run_on_port, shorten_file,
 };
-use node_core::{NodeParts, RunFault, run_script};
+use node_core::{Node, NodeParts, RunFault, run_script};
 use node_ports::Moments;
 use std::env::Env;
 use std::fs::File;
@@ -47,6 +48,14 @@ fn run<R: Clock + Env + AllocGlobal + Eprint + Files<File = File> + Input + Net 
             Ok(0)
         }
         Request::Udp(node, options) => udp(rt, node, &options),
+        Request::Run(path) => {
+            let (node, options) = read_configuration(rt, &path)?;
+            udp(rt, node, &options)
+        }
+        Request::Check(path) => {
+            check(rt, &path)?;
+            Ok(0)
+        }
         Request::Shorten(options) => {
             shorten_file(rt, &options)?;
             Ok(0)
@@ -94,6 +103,22 @@ fn udp<R: AllocGlobal + Clock + Eprint + Files<File = File> + Net + Print>(
         }
         Err(fault) => Err(fault),
     }
+}
+
+/// Reads the configuration file, and the files that it names, and writes to standard output how many
+/// peers, rules and keys there are.
+fn check<R: AllocGlobal + Files + Print>(rt: &R, path: &str) -> Result<(), Fault> {
+    let (node, options) = read_configuration(rt, path)?;
+    let (parts, mut files) = parts_of(rt, node)?;
+    if options.journal.is_some() {
+        files.journal();
+        let _read = files.read()?;
+    }
+    let (rules, keys) = (parts.rules.len(), parts.keys.len());
+    let _node = Node::new(rt.alloc(), parts).map_err(|fault| Fault::Script(RunFault::Node(fault)))?;
+    let peers = options.peers.len();
+    println!(rt; "{path}: {peers} peers, {rules} rules, {keys} keys")
+        .map_err(|_| Fault::Script(RunFault::Write))
 }
 
 /// Reads the rule file and the key file that the options name. Returns the parts of a node that has

@@ -1,0 +1,161 @@
+//! Nodes that a file configures.
+ghost use Rattle.std.specs.Prelude.{◌≡◌, ◌≤◌, IfOk, IfSome, MatchResult, Ok, count_by, length, map, string_bytes};
+ghost use Rattle.std.specs.Option.{option_map};
+ghost use Rattle.node_config.specs.File.{FileOf};
+ghost use Rattle.node_config.specs.Plain.{plain_config};
+ghost use Rattle.ndn_daemon.specs.Configuration.{AreConfigured, IsConfigFileFault, is_local, level_of, placed};
+ghost use Rattle.ndn_daemon.specs.Options.{MayBePath};
+
+use crate::fault::Fault;
+use crate::files::unread_config;
+use crate::options::Options;
+use crate::udp_options::{LogLevel, UdpOptions};
+use limited_reads::read_within;
+use node_config::{Config, ConfigFault, ConfigFaultKind, Listen, Peer, Scope};
+use node_core::{MAX_FACES, RunFault};
+use std::alloc::{AllocError, Global};
+use std::fs::File;
+use std::io::Read;
+use std::net::SocketAddr;
+use std::rt::Files;
+
+/// The greatest length of a configuration file, in octets.
+const MAX_CONFIG_FILE: u32 = 65_536;
+
+/// Reads the configuration file at this path, and returns the options of the node that the file
+/// configures. Paths in the file that do not begin with `/` are taken from the folder of the file.
+pub fn read_configuration<R: AllocGlobal + Files>(
+    rt: &R,
+    path: &str,
+) -> Result<(Options, UdpOptions), Fault>
+    ensures { IfOk result (λ options. length options.1.peers.items ≤ MAX_FACES) }
+{
+    let config = match File::open(rt, path) {
+        Ok(file) => read_config_file(rt.alloc(), path, file)?,
+        Err(error) => return Err(unread_config(rt.alloc(), path, &error)),
+    };
+    options_of(rt.alloc(), folder_of(path), config)
+}
+
+/// Reads an open configuration file. `path` is the path of the file. A file of more than 65,536
+/// octets has a TooLarge fault at line 0, even if it is not UTF-8.
+pub fn read_config_file<R: Read + Drop>(alloc: Global, path: &str, file: R) -> Result<Config, Fault>
+    // This clause states the result if the content of the file is known.
+    ensures known { IfSome (R.remaining file) (λ octets. MatchResult result
+        (λ config. FileOf octets (Ok (plain_config config)))
+        (IsConfigFileFault path.now octets)) }
+    ensures few { IfOk result (λ config. length config.peers.items ≤ MAX_FACES) }
+{
+    match read_within(alloc, file, MAX_CONFIG_FILE) {
+        Ok(Some(octets)) => Config::read(alloc, &octets).map_err(Fault::Config),
+        Ok(None) => Err(Fault::Config(ConfigFault {
+            line: 0,
+            kind: ConfigFaultKind::TooLarge,
+        })),
+        Err(error) => Err(unread_config(alloc, path, &error)),
+    }
+}
+
+/// Returns the part of the path up to its last slash, or an empty text if it has none.
+fn folder_of(path: &str) -> &str {
+    match path.rfind('/') {
+        Some(place) => path.split_at(place.saturating_add(1)).0,
+        None => "",
+    }
+}
+
+/// Returns the path, taken from the folder unless it begins with a slash. `folder` is empty or ends
+/// with a slash.
+fn placed(alloc: Global, folder: &str, path: Option<String>) -> Result<Option<String>, AllocError>
+    ensures { IfOk result (MayBePath
+        (option_map (λ path. placed folder.now (string_bytes path)) path)) }
+{
+    let Some(path) = path else {
+        return Ok(None);
+    };
+    if path.starts_with('/') {
+        return Ok(Some(path));
+    }
+    let mut whole = String::from_str(alloc, folder)?;
+    whole.push_str(&path)?;
+    Ok(Some(whole))
+}
+
+/// Returns the endpoints of the peers, in order.
+fn endpoints_of(alloc: Global, peers: &[Peer]) -> Result<Vec<SocketAddr>, AllocError>
+    ensures { IfOk result (λ endpoints. endpoints.items ≡ map (λ peer. peer.endpoint) peers.now) }
+{
+    let mut endpoints = Vec::new(alloc);
+    for peer in peers {
+        endpoints.push(peer.endpoint)?;
+    }
+    Ok(endpoints)
+}
+
+/// Returns the number of Local peers.
+fn local_of(peers: &[Peer]) -> u64
+    ensures { result ≡ count_by (λ peer. is_local peer.scope) peers.now }
+{
+    peers
+        .iter()
+        .filter(|peer| matches!(peer.scope, Scope::Local))
+        .count() as u64
+}
+
+fn level_of(level: node_config::LogLevel) -> LogLevel
+    ensures { result ≡ level_of level }
+{
+    match level {
+        node_config::LogLevel::None => LogLevel::None,
+        node_config::LogLevel::Events => LogLevel::Events,
+        node_config::LogLevel::All => LogLevel::All,
+    }
+}
+
+/// Returns the options of the node that the configuration describes. Paths that do not begin with
+/// `/` are taken from the folder.
+pub fn options_of(
+    alloc: Global,
+    folder: &str,
+    config: Config,
+) -> Result<(Options, UdpOptions), Fault>
+    // The only fault is that memory ran out.
+    ensures { MatchResult result
+        (λ options. AreConfigured folder.now (plain_config config) options.0 options.1)
+        (λ fault. fault ≡ Fault.Script RunFault.Memory) }
+{
+    let Config {
+        listen,
+        files,
+        prefix,
+        limits,
+        log,
+        peers,
+    } = config;
+    let Listen {
+        udp,
+        tcp,
+        unix,
+        strangers,
+    } = listen;
+    let node = Options {
+        rules: placed(alloc, folder, files.rules)?,
+        keys: placed(alloc, folder, files.keys)?,
+        repo: prefix,
+        cache: limits.cache,
+    };
+    let options = UdpOptions {
+        listen: udp,
+        turns: limits.turns,
+        peers: endpoints_of(alloc, &peers)?,
+        local: local_of(&peers),
+        idle: limits.idle,
+        open: strangers,
+        log: level_of(log.level),
+        journal: placed(alloc, folder, files.journal)?,
+        quiet: !log.answers,
+        tcp,
+        unix: placed(alloc, folder, unix)?,
+    };
+    Ok((node, options))
+}
