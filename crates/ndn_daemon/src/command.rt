@@ -186,7 +186,7 @@ const ABOUT_CHECK: &str = "Checks a configuration file, and the rules and keys t
 
 const AFTER_CHECK: &str = "The program reads CONFIG, and the rule file and the key file that it names, as `ndn_node run CONFIG`
 does when it starts. It starts no node, and neither binds a port nor opens the journal. If there is
-no fault, it prints what it has read, such as `node.conf: 3 peers, 4 rules, 2 keys`. Of several
+no fault, it prints what it has read, such as `node.conf: peers 3, rules 4, keys 2`. Of several
 faults it reports the first.
 
 Exit status:

@@ -117,7 +117,7 @@ fn check<R: AllocGlobal + Files + Print>(rt: &R, path: &str) -> Result<(), Fault
     let (rules, keys) = (parts.rules.len(), parts.keys.len());
     let _node = Node::new(rt.alloc(), parts).map_err(|fault| Fault::Script(RunFault::Node(fault)))?;
     let peers = options.peers.len();
-    println!(rt; "{path}: {peers} peers, {rules} rules, {keys} keys")
+    println!(rt; "{path}: peers {peers}, rules {rules}, keys {keys}")
         .map_err(|_| Fault::Script(RunFault::Write))
 }
 

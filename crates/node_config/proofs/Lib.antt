@@ -1,0 +1,7 @@
+pub mod KnownKeys
+pub mod Readings
+pub mod Endpoints
+pub mod FaceUris
+pub mod Sure
+pub mod SureValues
+pub mod SureFiles
