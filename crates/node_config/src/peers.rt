@@ -1,6 +1,6 @@
 //! Reads the peers.
 
-ghost use Rattle.std.specs.Prelude.{◌↔◌, IsTrue, map};
+ghost use Rattle.std.specs.Prelude.{◌↔◌, ◌≤◌, IfOk, IsTrue, length, map};
 ghost use Rattle.info_rules.specs.Shown.{key_of, keys_of};
 ghost use Rattle.node_config.specs.Endpoint.{IsItself, IsLoopback, IsUnspecified};
 ghost use Rattle.node_config.specs.Peers.{EndpointOf, IsNameOctet, IsPeerName, NameOf, PeerOf, PeersOf, PlaceOf, ScopeOf, UriOf};
@@ -173,8 +173,9 @@ pub fn read_peers(
     own: &SocketAddr,
     file: Keys<'_>,
 ) -> Result<Vec<Peer>, ConfigFault>
-    ensures { Meets (PeersOf own.now (keys_of file.entry)) (λ peers. map plain_peer peers.items)
-        result }
+    ensures meets { Meets (PeersOf own.now (keys_of file.entry))
+        (λ peers. map plain_peer peers.items) result }
+    ensures few { IfOk result (λ peers. length peers.items ≤ 64) }
 {
     let mut peers = Vec::new(alloc);
     let mut left = block_at(file, "peers")?;

@@ -1,6 +1,6 @@
 //! Reads configuration files.
 
-ghost use Rattle.std.specs.Prelude.{◌≡◌, ℕ, List, Ok, Err, Result};
+ghost use Rattle.std.specs.Prelude.{◌≡◌, ◌≤◌, ℕ, IfOk, List, Result, length};
 ghost use Rattle.info_rules.specs.Shown.{keys_of};
 ghost use Rattle.node_config.specs.declared.fault.ConfigFault.{ConfigFault as Fault};
 ghost use Rattle.node_config.specs.File.{ConfigOf, EntriesOf, FileOf};
@@ -31,7 +31,8 @@ const WORDS: [&str; 9] = [
 
 /// Reads the configuration from the keys of a file.
 fn read_keys(alloc: Global, file: Keys<'_>) -> Result<Config, ConfigFault>
-    ensures { Meets (ConfigOf (keys_of file.entry)) plain_config result }
+    ensures meets { Meets (ConfigOf (keys_of file.entry)) plain_config result }
+    ensures few { IfOk result (λ config. length config.peers.items ≤ 64) }
 {
     check_keys(&WORDS, file)?;
     let listen = read_listen(alloc, file)?;
@@ -88,7 +89,9 @@ impl Config {
     /// file; for the faults of a peer see `ConfigFaultKind`, from `TooManyPeers` on, where the faults
     /// of its block come before `UriTwice`. `Memory` may be returned for any file.
     pub fn read(alloc: Global, octets: &[u8]) -> Result<Config, ConfigFault>
-        ensures { Meets (FileOf octets.now) plain_config result }
+        // The result is the configuration of the file, or the fault that is reported, or `Memory`.
+        ensures meets { Meets (FileOf octets.now) plain_config result }
+        ensures few { IfOk result (λ config. length config.peers.items ≤ 64) }
     {
         let tree = read_tree(alloc, octets)?;
         read_keys(alloc, tree.keys())

@@ -1,0 +1,40 @@
+-- Peers are read one after another.
+use Rattle.std.proofs.Common.{◌≡◌, ℕ, ◌+◌, ◌<◌, ◌≤◌, List, [], ◌∷◌, ◌++◌, length, map, refl, sym, ap, subst, inl, inr, arith}
+use Rattle.std.specs.Prelude.{Result, Ok, Err}
+use Rattle.std.proofs.lemmas.List.{length-map}
+use Rattle.std.specs.declared.net.socket_addr.SocketAddr.{SocketAddr}
+use Rattle.info_rules.specs.Tree.{Block}
+use Rattle.node_config.specs.declared.config.Peer.{Peer}
+use Rattle.node_config.specs.declared.config.Scope.{Scope}
+use Rattle.node_config.specs.declared.fault.ConfigFault.{ConfigFault}
+use Rattle.node_config.specs.Peers.{NameOf, PeerOf, PeersAfter, peer_with}
+use Rattle.node_config.specs.Plain.{PlainPeer, plain_peer}
+
+module _ (own : SocketAddr) (before : List PlainPeer) (all : List Block) (key : Block) (others : List Block) (is : all ≡ key ∷ others) where
+  -- the fault of the first peer is reported
+  pub first_peer_fault : (fault : ConfigFault) → PeerOf own before key (Err fault) → PeersAfter own before all (Err fault)
+  unfolding PeersAfter
+  first_peer_fault fault h = subst (λ (keys : List Block). PeersAfter own before keys (Err fault)) (sym is) (inl (fault, h, refl))
+
+  -- the other peers come after the first
+  pub first_peer : (found : SocketAddr × Scope) → PeerOf own before key (Ok found) → (r : Result (List PlainPeer) ConfigFault) → PeersAfter own (before ++ peer_with key found ∷ []) others r → PeersAfter own before all r
+  unfolding PeersAfter
+  first_peer found h r k = subst (λ (keys : List Block). PeersAfter own before keys r) (sym is) (inr (found, h, k))
+
+pub no_peers : (own : SocketAddr) (before : List PlainPeer) (keys : List Block) → keys ≡ [] → PeersAfter own before keys (Ok before)
+unfolding PeersAfter
+no_peers own before keys is = subst (λ (ks : List Block). PeersAfter own before ks (Ok before)) (sym is) refl
+
+named_after_few : (before : List PlainPeer) (name : List ℕ) (line : ℕ) (r : Unit {0}) → NameOf before name line (Ok r) → length before < 64
+named_after_few before name line r (inl h) = cc (h.2)
+named_after_few before name line r (inr h) = h.1
+
+-- a peer follows fewer than 64 peers
+pub few_before : (own : SocketAddr) (before : List PlainPeer) (key : Block) (found : SocketAddr × Scope) → PeerOf own before key (Ok found) → length before < 64
+few_before own before key found (inl h) = cc (h.2)
+few_before own before key found (inr h) = named_after_few before key.0.key key.0.line h.0 h.1
+
+-- the peers with one more at the end
+pub plain_pushed : (peers : List Peer) (peer : Peer) → map plain_peer (peers ++ peer ∷ []) ≡ map plain_peer peers ++ plain_peer peer ∷ []
+plain_pushed [] peer = refl
+plain_pushed (first ∷ peers) peer = ap (λ (t : List PlainPeer). plain_peer first ∷ t) (plain_pushed peers peer)
