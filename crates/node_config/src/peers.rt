@@ -1,6 +1,9 @@
 //! Reads the peers.
 
-ghost use Rattle.std.specs.Prelude.{◌↔◌, ◌≤◌, IfOk, IsTrue, length, map};
+ghost use Rattle.std.specs.Prelude.{◌≡◌, ◌≢◌, ◌↔◌, ◌<◌, ◌≤◌, IfOk, IsTrue, length, map};
+ghost use Rattle.std.specs.List.{AllByRecursion};
+ghost use Rattle.std.specs.Net.Addr.{is_ipv4};
+ghost use Rattle.std.specs.Net.Socket.{socket_ip};
 ghost use Rattle.info_rules.specs.Shown.{key_of, keys_of};
 ghost use Rattle.node_config.specs.Endpoint.{IsItself, IsLoopback, IsUnspecified};
 ghost use Rattle.node_config.specs.Peers.{EndpointOf, IsNameOctet, IsPeerName, NameOf, PeerOf, PeersOf, PlaceOf, ScopeOf, UriOf};
@@ -61,6 +64,82 @@ fn is_peer_name(text: &str) -> bool
         && text.as_bytes().iter().all(|octet| is_name_octet(*octet))
 }
 
+/// Returns whether one more peer can follow the peers in `before`.
+fn has_room(before: &[Peer]) -> bool
+    ensures { IsTrue result ↔ (length (map plain_peer before.now) < 64) }
+{
+    before.len() < MAX_PEERS
+}
+
+/// Returns whether no peer in `before` has this name.
+fn is_new_name(before: &[Peer], name: &str) -> bool
+    ensures { IsTrue result
+        ↔ AllByRecursion (λ peer. peer.name ≢ name.now) (map plain_peer before.now) }
+{
+    before.iter().all(|peer| peer.name.as_str() != name)
+}
+
+/// Returns whether no peer in `before` has this endpoint.
+fn is_new_endpoint(before: &[Peer], endpoint: &SocketAddr) -> bool
+    ensures { IsTrue result
+        ↔ AllByRecursion (λ peer. peer.endpoint ≢ endpoint.now) (map plain_peer before.now) }
+{
+    before.iter().all(|peer| peer.endpoint != *endpoint)
+}
+
+/// Returns whether all peers in `before` are Local.
+fn are_local(before: &[Peer]) -> bool
+    ensures { IsTrue result
+        ↔ AllByRecursion (λ peer. peer.scope ≡ Scope.Local) (map plain_peer before.now) }
+{
+    before
+        .iter()
+        .all(|peer| matches!(peer.scope, Scope::Local))
+}
+
+/// Returns whether the peer is not the node itself, whose endpoint for UDP is `own`.
+fn is_other(own: &SocketAddr, peer: &SocketAddr) -> bool
+    ensures { IsTrue result ↔ ¬ (IsItself own.now peer.now) }
+{
+    !is_itself(own, peer)
+}
+
+/// Returns whether the address is that of a machine.
+fn is_specified(endpoint: &SocketAddr) -> bool
+    ensures { IsTrue result ↔ ¬ (IsUnspecified endpoint.now) }
+{
+    !is_unspecified(endpoint)
+}
+
+/// Returns whether the two addresses are of one family.
+fn are_of_one_family(own: &SocketAddr, endpoint: &SocketAddr) -> bool
+    ensures { IsTrue result
+        ↔ (is_ipv4 (socket_ip endpoint.now) ≡ is_ipv4 (socket_ip own.now)) }
+{
+    endpoint.is_ipv4() == own.is_ipv4()
+}
+
+/// Returns whether a peer with this endpoint can have the scope.
+fn may_have(scope: Scope, endpoint: &SocketAddr) -> bool
+    ensures { IsTrue result ↔ (scope ≡ Scope.Local → IsLoopback endpoint.now) }
+{
+    match scope {
+        Scope::Local => is_loopback(endpoint),
+        Scope::Far => true,
+    }
+}
+
+/// Returns whether a peer with this scope can follow the peers in `before`.
+fn may_follow(scope: Scope, before: &[Peer]) -> bool
+    ensures { IsTrue result ↔ (scope ≡ Scope.Local
+        → AllByRecursion (λ peer. peer.scope ≡ Scope.Local) (map plain_peer before.now)) }
+{
+    match scope {
+        Scope::Local => are_local(before),
+        Scope::Far => true,
+    }
+}
+
 /// Returns the fault, unless `right` is true.
 fn unless(right: bool, fault: ConfigFault) -> Result<(), ConfigFault>
     ensures { Needs (IsTrue right) fault result }
@@ -72,13 +151,12 @@ fn unless(right: bool, fault: ConfigFault) -> Result<(), ConfigFault>
 fn check_name(before: &[Peer], name: &str, line: u32) -> Result<(), ConfigFault>
     ensures { NameOf (map plain_peer before.now) name.now line result }
 {
-    unless(
-        before.len() < MAX_PEERS,
-        ConfigFaultKind::TooManyPeers.at(line),
-    )?;
+    unless(has_room(before), ConfigFaultKind::TooManyPeers.at(line))?;
     unless(is_peer_name(name), ConfigFaultKind::BadPeerName.at(line))?;
-    let is_new = before.iter().all(|peer| peer.name.as_str() != name);
-    unless(is_new, ConfigFaultKind::NameTwice.at(line))
+    unless(
+        is_new_name(before, name),
+        ConfigFaultKind::NameTwice.at(line),
+    )
 }
 
 /// Checks that a node with the endpoint `own` can have this peer after the peers in `before`.
@@ -90,18 +168,14 @@ fn check_endpoint(
 ) -> Result<(), ConfigFault>
     ensures { EndpointOf own.now (map plain_peer before.now) endpoint.now line result }
 {
-    let is_new = before.iter().all(|peer| peer.endpoint != *endpoint);
-    unless(is_new, ConfigFaultKind::UriTwice.at(line))?;
     unless(
-        !is_itself(own, endpoint),
-        ConfigFaultKind::OwnUri.at(line),
+        is_new_endpoint(before, endpoint),
+        ConfigFaultKind::UriTwice.at(line),
     )?;
+    unless(is_other(own, endpoint), ConfigFaultKind::OwnUri.at(line))?;
+    unless(is_specified(endpoint), ConfigFaultKind::NoAddress.at(line))?;
     unless(
-        !is_unspecified(endpoint),
-        ConfigFaultKind::NoAddress.at(line),
-    )?;
-    unless(
-        endpoint.is_ipv4() == own.is_ipv4(),
+        are_of_one_family(own, endpoint),
         ConfigFaultKind::OtherFamily.at(line),
     )
 }
@@ -115,16 +189,12 @@ fn check_scope(
 ) -> Result<(), ConfigFault>
     ensures { PlaceOf (map plain_peer before.now) endpoint.now scope line result }
 {
-    let is_far = matches!(scope, Scope::Far);
     unless(
-        is_far || is_loopback(endpoint),
+        may_have(scope, endpoint),
         ConfigFaultKind::NotLoopback.at(line),
     )?;
-    let none_is_far = before
-        .iter()
-        .all(|peer| matches!(peer.scope, Scope::Local));
     unless(
-        is_far || none_is_far,
+        may_follow(scope, before),
         ConfigFaultKind::LocalAfterFar.at(line),
     )
 }

@@ -1,11 +1,19 @@
-use Rattle.std.proofs.Common.{rules, ◌↔◌, IsTrue, map, ◌≡◌, ℕ, ◌+◌, ◌-◌, ◌*◌, ◌<◌, ◌≤◌, length, ◌/◌, ◌%◌, Bool, true, false, nat_eq, nat_lt, List, [], ◌∷◌, ◌++◌, slice_index_or, slice_set, bit_and, bit_or, Fits, w8, w32, w64, Bor, MutBor}
-use Rattle.info_rules.specs.Shown.{key_of, keys_of}
-use Rattle.node_config.specs.Endpoint.{IsItself, IsLoopback, IsUnspecified}
-use Rattle.node_config.specs.Peers.{EndpointOf, IsNameOctet, IsPeerName, NameOf, PeerOf, PeersOf, PlaceOf, ScopeOf, UriOf}
-use Rattle.node_config.specs.Plain.{plain_peer}
-use Rattle.node_config.specs.Reading.{Meets, Needs}
+use Rattle.std.proofs.Common.{refl, inl, inr}
+use Rattle.std.proofs.lemmas.Result.{err_from_is_err_and}
+use Rattle.std.specs.Prelude.{Err}
+use Rattle.node_config.proofs.Readings.{needs_fact}
 use Rattle.node_config.proofs.peers.check_name.Goals as goal
 
--- src/peers.rt:72:1
+pub returns-in_err-unless : goal.returns-in_err-unless
+returns-in_err-unless c =
+    let p = err_from_is_err_and c.from_residual-in_err-unless.result c.from_residual-in_err-unless.ensures.1 in
+    rw (p.1, p.2) (inl (c.in_err-unless.field-0.0, needs_fact _ _ _ _ c.at.ensures c.has_room.ensures.0 c.has_room.ensures.1 (Err c.in_err-unless.field-0.0) c.in_err-unless.ensures, refl))
+
+pub returns-in_err-unless-2 : goal.returns-in_err-unless-2
+returns-in_err-unless-2 c =
+    let p = err_from_is_err_and c.from_residual-in_err-unless-2.result c.from_residual-in_err-unless-2.ensures.1 in
+    rw (p.1, p.2) (inr (tt, c.has_room.ensures.0 c.in_ok-unless.ensures, inl (c.in_err-unless-2.field-0.0, needs_fact _ _ _ _ c.at-2.ensures c.is_peer_name.ensures.0 c.is_peer_name.ensures.1 (Err c.in_err-unless-2.field-0.0) c.in_err-unless-2.ensures, refl)))
+
 pub returns : goal.returns
-returns c = ?
+returns c =
+    inr (tt, c.has_room.ensures.0 c.in_ok-unless.ensures, inr (tt, c.is_peer_name.ensures.0 c.in_ok-unless-2.ensures, needs_fact _ _ _ _ c.at-3.ensures c.is_new_name.ensures.0 c.is_new_name.ensures.1 c.unless-3.result c.unless-3.ensures))

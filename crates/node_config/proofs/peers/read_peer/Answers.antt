@@ -1,31 +1,31 @@
-use Rattle.std.proofs.Common.{rules, ◌↔◌, IsTrue, map, ◌≡◌, ℕ, ◌+◌, ◌-◌, ◌*◌, ◌<◌, ◌≤◌, length, ◌/◌, ◌%◌, Bool, true, false, nat_eq, nat_lt, List, [], ◌∷◌, ◌++◌, slice_index_or, slice_set, bit_and, bit_or, Fits, w8, w32, w64, Bor, MutBor}
-use Rattle.info_rules.specs.Shown.{key_of, keys_of}
-use Rattle.node_config.specs.Endpoint.{IsItself, IsLoopback, IsUnspecified}
-use Rattle.node_config.specs.Peers.{EndpointOf, IsNameOctet, IsPeerName, NameOf, PeerOf, PeersOf, PlaceOf, ScopeOf, UriOf}
-use Rattle.node_config.specs.Plain.{plain_peer}
-use Rattle.node_config.specs.Reading.{Meets, Needs}
+use Rattle.std.proofs.Common.{refl, inl, inr}
+use Rattle.std.proofs.lemmas.Result.{err_from_is_err_and}
 use Rattle.node_config.proofs.peers.read_peer.Goals as goal
 
--- src/peers.rt:162:5
 pub returns-in_err-check_name : goal.returns-in_err-check_name
-returns-in_err-check_name c = ?
+returns-in_err-check_name c =
+    let p = err_from_is_err_and c.from_residual-in_err-check_name.result c.from_residual-in_err-check_name.ensures.1 in
+    rw (p.1, p.2) (inl (c.in_err-check_name.field-0.0, c.in_err-check_name.ensures, refl))
 
--- src/peers.rt:163:20
 pub returns-in_err-endpoint : goal.returns-in_err-endpoint
-returns-in_err-endpoint c = ?
+returns-in_err-endpoint c =
+    let p = err_from_is_err_and c.from_residual-in_err-endpoint.result c.from_residual-in_err-endpoint.ensures.1 in
+    rw (p.1, p.2) (inr (tt, c.in_ok-check_name.ensures, inl (c.in_err-endpoint.field-0.0, c.in_err-endpoint.ensures, refl)))
 
--- src/peers.rt:164:17
 pub returns-in_err-scope : goal.returns-in_err-scope
-returns-in_err-scope c = ?
+returns-in_err-scope c =
+    let p = err_from_is_err_and c.from_residual-in_err-scope.result c.from_residual-in_err-scope.ensures.1 in
+    rw (p.1, p.2) (inr (tt, c.in_ok-check_name.ensures, inr (c.in_ok-endpoint.endpoint, c.in_ok-endpoint.ensures, inl (c.in_err-scope.field-0.0, c.in_err-scope.ensures, refl))))
 
--- src/peers.rt:165:5
 pub returns-in_err-check_endpoint : goal.returns-in_err-check_endpoint
-returns-in_err-check_endpoint c = ?
+returns-in_err-check_endpoint c =
+    let p = err_from_is_err_and c.from_residual-in_err-check_endpoint.result c.from_residual-in_err-check_endpoint.ensures.1 in
+    rw (p.1, p.2) (inr (tt, c.in_ok-check_name.ensures, inr (c.in_ok-endpoint.endpoint, c.in_ok-endpoint.ensures, inr (c.in_ok-scope.scope, c.in_ok-scope.ensures, inl (c.in_err-check_endpoint.field-0.0, c.in_err-check_endpoint.ensures, refl)))))
 
--- src/peers.rt:166:5
 pub returns-in_err-check_scope : goal.returns-in_err-check_scope
-returns-in_err-check_scope c = ?
+returns-in_err-check_scope c =
+    let p = err_from_is_err_and c.from_residual-in_err-check_scope.result c.from_residual-in_err-check_scope.ensures.1 in
+    rw (p.1, p.2) (inr (tt, c.in_ok-check_name.ensures, inr (c.in_ok-endpoint.endpoint, c.in_ok-endpoint.ensures, inr (c.in_ok-scope.scope, c.in_ok-scope.ensures, inr (tt, c.in_ok-check_endpoint.ensures, inl (c.in_err-check_scope.field-0.0, c.in_err-check_scope.ensures, refl))))))
 
--- src/peers.rt:154:1
 pub returns : goal.returns
-returns c = ?
+returns c = inr (tt, c.in_ok-check_name.ensures, inr (c.in_ok-endpoint.endpoint, c.in_ok-endpoint.ensures, inr (c.in_ok-scope.scope, c.in_ok-scope.ensures, inr (tt, c.in_ok-check_endpoint.ensures, inr (tt, c.in_ok-check_scope.ensures, refl)))))

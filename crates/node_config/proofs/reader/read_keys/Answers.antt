@@ -1,39 +1,44 @@
-use Rattle.std.proofs.Common.{rules, ◌≡◌, ℕ, List, Ok, Err, Result, ◌+◌, ◌-◌, ◌*◌, ◌<◌, ◌≤◌, length, ◌/◌, ◌%◌, Bool, true, false, nat_eq, nat_lt, [], ◌∷◌, ◌++◌, slice_index_or, slice_set, bit_and, bit_or, Fits, w8, w32, w64, Bor, MutBor}
-use Rattle.info_rules.specs.Shown.{keys_of}
-use Rattle.node_config.specs.declared.fault.ConfigFault.{ConfigFault as Fault}
-use Rattle.node_config.specs.File.{ConfigOf, EntriesOf, FileOf}
-use Rattle.node_config.specs.Plain.{PlainConfig, plain_config}
-use Rattle.node_config.specs.Reading.{Meets}
+use Rattle.std.proofs.Common.{refl, inl, inr}
+use Rattle.std.proofs.lemmas.Result.{err_from_is_err_and}
+use Rattle.std.proofs.Common.{map}
+use Rattle.node_config.specs.Plain.{plain_files, plain_listen, plain_peer}
+use Rattle.node_config.proofs.Readings.{or_memory}
 use Rattle.node_config.proofs.reader.read_keys.Goals as goal
 
--- src/reader.rt:36:5
-pub returns-in_err-check_keys : goal.returns-in_err-check_keys
-returns-in_err-check_keys c = ?
+pub returns-in_err-check_keys-clause-meets : goal.returns-in_err-check_keys-clause-meets
+returns-in_err-check_keys-clause-meets c =
+    let p = err_from_is_err_and c.from_residual-in_err-check_keys.result c.from_residual-in_err-check_keys.ensures.1 in
+    rw (p.1, p.2) (inl (inl (c.in_err-check_keys.field-0.0, c.in_err-check_keys.ensures, refl)))
 
--- src/reader.rt:37:18
-pub returns-in_err-listen : goal.returns-in_err-listen
-returns-in_err-listen c = ?
+pub returns-in_err-listen-clause-meets : goal.returns-in_err-listen-clause-meets
+returns-in_err-listen-clause-meets c =
+    let p = err_from_is_err_and c.from_residual-in_err-listen.result c.from_residual-in_err-listen.ensures.1 in
+    rw (p.1, p.2) (or_memory c.in_err-listen.field-0.0 (λ h. inr (tt, c.in_ok-check_keys.ensures, inl (c.in_err-listen.field-0.0, h, refl))) c.in_err-listen.ensures)
 
--- src/reader.rt:38:17
-pub returns-in_err-files : goal.returns-in_err-files
-returns-in_err-files c = ?
+pub returns-in_err-files-clause-meets : goal.returns-in_err-files-clause-meets
+returns-in_err-files-clause-meets c =
+    let p = err_from_is_err_and c.from_residual-in_err-files.result c.from_residual-in_err-files.ensures.1 in
+    rw (p.1, p.2) (or_memory c.in_err-files.field-0.0 (λ h. inr (tt, c.in_ok-check_keys.ensures, inr (plain_listen c.in_ok-listen.listen, c.in_ok-listen.ensures, inl (c.in_err-files.field-0.0, h, refl)))) c.in_err-files.ensures)
 
--- src/reader.rt:39:18
-pub returns-in_err-prefix : goal.returns-in_err-prefix
-returns-in_err-prefix c = ?
+pub returns-in_err-prefix-clause-meets : goal.returns-in_err-prefix-clause-meets
+returns-in_err-prefix-clause-meets c =
+    let p = err_from_is_err_and c.from_residual-in_err-prefix.result c.from_residual-in_err-prefix.ensures.1 in
+    rw (p.1, p.2) (or_memory c.in_err-prefix.field-0.0 (λ h. inr (tt, c.in_ok-check_keys.ensures, inr (plain_listen c.in_ok-listen.listen, c.in_ok-listen.ensures, inr (plain_files c.in_ok-files.files, c.in_ok-files.ensures, inl (c.in_err-prefix.field-0.0, h, refl))))) c.in_err-prefix.ensures)
 
--- src/reader.rt:40:18
-pub returns-in_err-limits : goal.returns-in_err-limits
-returns-in_err-limits c = ?
+pub returns-in_err-limits-clause-meets : goal.returns-in_err-limits-clause-meets
+returns-in_err-limits-clause-meets c =
+    let p = err_from_is_err_and c.from_residual-in_err-limits.result c.from_residual-in_err-limits.ensures.1 in
+    rw (p.1, p.2) (inl (inr (tt, c.in_ok-check_keys.ensures, inr (plain_listen c.in_ok-listen.listen, c.in_ok-listen.ensures, inr (plain_files c.in_ok-files.files, c.in_ok-files.ensures, inr (c.in_ok-prefix.prefix, c.in_ok-prefix.ensures, inl (c.in_err-limits.field-0.0, c.in_err-limits.ensures, refl)))))))
 
--- src/reader.rt:41:15
-pub returns-in_err-log : goal.returns-in_err-log
-returns-in_err-log c = ?
+pub returns-in_err-log-clause-meets : goal.returns-in_err-log-clause-meets
+returns-in_err-log-clause-meets c =
+    let p = err_from_is_err_and c.from_residual-in_err-log.result c.from_residual-in_err-log.ensures.1 in
+    rw (p.1, p.2) (inl (inr (tt, c.in_ok-check_keys.ensures, inr (plain_listen c.in_ok-listen.listen, c.in_ok-listen.ensures, inr (plain_files c.in_ok-files.files, c.in_ok-files.ensures, inr (c.in_ok-prefix.prefix, c.in_ok-prefix.ensures, inr (c.in_ok-limits.limits, c.in_ok-limits.ensures, inl (c.in_err-log.field-0.0, c.in_err-log.ensures, refl))))))))
 
--- src/reader.rt:42:17
-pub returns-in_err-peers : goal.returns-in_err-peers
-returns-in_err-peers c = ?
+pub returns-in_err-peers-clause-meets : goal.returns-in_err-peers-clause-meets
+returns-in_err-peers-clause-meets c =
+    let p = err_from_is_err_and c.from_residual-in_err-peers.result c.from_residual-in_err-peers.ensures.1 in
+    rw (p.1, p.2) (or_memory c.in_err-peers.field-0.0 (λ h. inr (tt, c.in_ok-check_keys.ensures, inr (plain_listen c.in_ok-listen.listen, c.in_ok-listen.ensures, inr (plain_files c.in_ok-files.files, c.in_ok-files.ensures, inr (c.in_ok-prefix.prefix, c.in_ok-prefix.ensures, inr (c.in_ok-limits.limits, c.in_ok-limits.ensures, inr (c.in_ok-log.log, c.in_ok-log.ensures, inl (c.in_err-peers.field-0.0, h, refl)))))))) c.in_err-peers.ensures.meets)
 
--- src/reader.rt:33:1
-pub returns : goal.returns
-returns c = ?
+pub returns-clause-meets : goal.returns-clause-meets
+returns-clause-meets c = inr (tt, c.in_ok-check_keys.ensures, inr (plain_listen c.in_ok-listen.listen, c.in_ok-listen.ensures, inr (plain_files c.in_ok-files.files, c.in_ok-files.ensures, inr (c.in_ok-prefix.prefix, c.in_ok-prefix.ensures, inr (c.in_ok-limits.limits, c.in_ok-limits.ensures, inr (c.in_ok-log.log, c.in_ok-log.ensures, inr (map plain_peer c.in_ok-peers.peers.items, c.in_ok-peers.ensures.meets, refl)))))))

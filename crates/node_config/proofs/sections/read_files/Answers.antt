@@ -1,18 +1,24 @@
-use Rattle.std.proofs.Common.{rules, ◌≡◌, map, ℕ, ◌+◌, ◌-◌, ◌*◌, ◌<◌, ◌≤◌, length, ◌/◌, ◌%◌, Bool, true, false, nat_eq, nat_lt, List, [], ◌∷◌, ◌++◌, slice_index_or, slice_set, bit_and, bit_or, Fits, w8, w32, w64, Bor, MutBor}
-use Rattle.info_rules.specs.Shown.{keys_of}
-use Rattle.node_config.specs.Plain.{plain_files, plain_listen}
-use Rattle.node_config.specs.Reading.{Meets, seen_as}
-use Rattle.node_config.specs.Sections.{BlockOf, CacheOf, FilesOf, LimitsOf, ListenOf, LogOf, RepositoryOf, UdpOf}
+use Rattle.std.proofs.Common.{refl, inl, inr}
+use Rattle.std.proofs.lemmas.Result.{err_from_is_err_and}
+use Rattle.std.specs.Option.{option_map}
+use Rattle.std.proofs.Common.{string_bytes}
+use Rattle.node_config.proofs.Readings.{or_memory}
 use Rattle.node_config.proofs.sections.read_files.Goals as goal
 
--- src/sections.rt:69:16
+pub returns-in_err-rules : goal.returns-in_err-rules
+returns-in_err-rules c =
+    let p = err_from_is_err_and c.from_residual-in_err-rules.result c.from_residual-in_err-rules.ensures.1 in
+    rw (p.1, p.2) (or_memory c.in_err-rules.field-0.0 (λ h. inl (c.in_err-rules.field-0.0, h, refl)) c.in_err-rules.ensures)
+
 pub returns-in_err-keys : goal.returns-in_err-keys
-returns-in_err-keys c = ?
+returns-in_err-keys c =
+    let p = err_from_is_err_and c.from_residual-in_err-keys.result c.from_residual-in_err-keys.ensures.1 in
+    rw (p.1, p.2) (or_memory c.in_err-keys.field-0.0 (λ h. inr (option_map string_bytes c.in_ok-rules.rules, c.in_ok-rules.ensures, inl (c.in_err-keys.field-0.0, h, refl))) c.in_err-keys.ensures)
 
--- src/sections.rt:70:19
 pub returns-in_err-journal : goal.returns-in_err-journal
-returns-in_err-journal c = ?
+returns-in_err-journal c =
+    let p = err_from_is_err_and c.from_residual-in_err-journal.result c.from_residual-in_err-journal.ensures.1 in
+    rw (p.1, p.2) (or_memory c.in_err-journal.field-0.0 (λ h. inr (option_map string_bytes c.in_ok-rules.rules, c.in_ok-rules.ensures, inr (option_map string_bytes c.in_ok-keys.keys, c.in_ok-keys.ensures, inl (c.in_err-journal.field-0.0, h, refl)))) c.in_err-journal.ensures)
 
--- src/sections.rt:65:1
 pub returns : goal.returns
-returns c = ?
+returns c = inr (option_map string_bytes c.in_ok-rules.rules, c.in_ok-rules.ensures, inr (option_map string_bytes c.in_ok-keys.keys, c.in_ok-keys.ensures, inr (option_map string_bytes c.in_ok-journal.journal, c.in_ok-journal.ensures, refl)))

@@ -1,22 +1,22 @@
-use Rattle.std.proofs.Common.{rules, ◌≡◌, map, ℕ, ◌+◌, ◌-◌, ◌*◌, ◌<◌, ◌≤◌, length, ◌/◌, ◌%◌, Bool, true, false, nat_eq, nat_lt, List, [], ◌∷◌, ◌++◌, slice_index_or, slice_set, bit_and, bit_or, Fits, w8, w32, w64, Bor, MutBor}
+use Rattle.std.proofs.Common.{refl, inl, inr}
+use Rattle.std.proofs.lemmas.Result.{err_from_is_err_and}
 use Rattle.info_rules.specs.Shown.{keys_of}
-use Rattle.node_config.specs.Plain.{plain_files, plain_listen}
-use Rattle.node_config.specs.Reading.{Meets, seen_as}
-use Rattle.node_config.specs.Sections.{BlockOf, CacheOf, FilesOf, LimitsOf, ListenOf, LogOf, RepositoryOf, UdpOf}
 use Rattle.node_config.proofs.sections.read_log.Goals as goal
 
--- src/sections.rt:113:16
 pub returns-in_err-keys : goal.returns-in_err-keys
-returns-in_err-keys c = ?
+returns-in_err-keys c =
+    let p = err_from_is_err_and c.from_residual-in_err-keys.result c.from_residual-in_err-keys.ensures.1 in
+    rw (p.1, p.2) (inl (c.in_err-keys.field-0.0, c.in_err-keys.ensures, refl))
 
--- src/sections.rt:114:17
 pub returns-in_err-level : goal.returns-in_err-level
-returns-in_err-level c = ?
+returns-in_err-level c =
+    let p = err_from_is_err_and c.from_residual-in_err-level.result c.from_residual-in_err-level.ensures.1 in
+    rw (p.1, p.2) (inr (keys_of c.in_ok-keys.keys, c.in_ok-keys.ensures, inl (c.in_err-level.field-0.0, c.in_err-level.ensures, refl)))
 
--- src/sections.rt:115:19
 pub returns-in_err-answers : goal.returns-in_err-answers
-returns-in_err-answers c = ?
+returns-in_err-answers c =
+    let p = err_from_is_err_and c.from_residual-in_err-answers.result c.from_residual-in_err-answers.ensures.1 in
+    rw (p.1, p.2) (inr (keys_of c.in_ok-keys.keys, c.in_ok-keys.ensures, inr (c.in_ok-level.level, c.in_ok-level.ensures, inl (c.in_err-answers.field-0.0, c.in_err-answers.ensures, refl))))
 
--- src/sections.rt:110:1
 pub returns : goal.returns
-returns c = ?
+returns c = inr (keys_of c.in_ok-keys.keys, c.in_ok-keys.ensures, inr (c.in_ok-level.level, c.in_ok-level.ensures, inr (c.in_ok-answers.answers, c.in_ok-answers.ensures, refl)))

@@ -1,14 +1,18 @@
-use Rattle.std.proofs.Common.{rules, ◌≡◌, map, ℕ, ◌+◌, ◌-◌, ◌*◌, ◌<◌, ◌≤◌, length, ◌/◌, ◌%◌, Bool, true, false, nat_eq, nat_lt, List, [], ◌∷◌, ◌++◌, slice_index_or, slice_set, bit_and, bit_or, Fits, w8, w32, w64, Bor, MutBor}
+use Rattle.std.proofs.Common.{refl, inl, inr}
+use Rattle.std.proofs.lemmas.Result.{err_from_is_err_and}
 use Rattle.info_rules.specs.Shown.{keys_of}
-use Rattle.node_config.specs.Plain.{plain_files, plain_listen}
-use Rattle.node_config.specs.Reading.{Meets, seen_as}
-use Rattle.node_config.specs.Sections.{BlockOf, CacheOf, FilesOf, LimitsOf, ListenOf, LogOf, RepositoryOf, UdpOf}
+use Rattle.std.proofs.Common.{codes, [], ◌∷◌}
+use Rattle.node_config.specs.Sections.{BlockOf}
+use Rattle.node_config.specs.Values.{PrefixAt}
+use Rattle.node_config.proofs.Readings.{meets_then}
 use Rattle.node_config.proofs.sections.read_repository.Goals as goal
 
--- src/sections.rt:82:16
 pub returns-in_err-keys : goal.returns-in_err-keys
-returns-in_err-keys c = ?
+returns-in_err-keys c =
+    let p = err_from_is_err_and c.from_residual-in_err-keys.result c.from_residual-in_err-keys.ensures.1 in
+    rw (p.1, p.2) (inl (inl (c.in_err-keys.field-0.0, c.in_err-keys.ensures, refl)))
 
--- src/sections.rt:79:1
 pub returns : goal.returns
-returns c = ?
+returns c =
+    meets_then (BlockOf (codes "repository") (codes "prefix" ∷ []) (keys_of c.args.file)) (PrefixAt (codes "prefix")) (λ name. name) (keys_of c.in_ok-keys.keys)
+    c.in_ok-keys.ensures c.prefix_at.result c.prefix_at.ensures

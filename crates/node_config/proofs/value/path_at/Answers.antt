@@ -1,16 +1,20 @@
-use Rattle.std.proofs.Common.{rules, ℕ, List, MatchOption, string_bytes, ◌≡◌, ◌+◌, ◌-◌, ◌*◌, ◌<◌, ◌≤◌, length, ◌/◌, ◌%◌, Bool, true, false, nat_eq, nat_lt, [], ◌∷◌, ◌++◌, slice_index_or, slice_set, bit_and, bit_or, Fits, w8, w32, w64, Bor, MutBor}
-use Rattle.std.specs.Option.{option_map}
-use Rattle.ndn_names.specs.ReadsAs.{ReadsAs}
-use Rattle.info_rules.specs.Shown.{keys_of}
-use Rattle.node_config.specs.declared.fault.ConfigFaultKind.TheVariants.{BadPrefix}
-use Rattle.node_config.specs.Reading.{Meets}
-use Rattle.node_config.specs.Values.{PathAt, PrefixAt, Spelled, ValueAt, ValueOr}
+use Rattle.std.proofs.Common.{refl, inl, inr, string_bytes}
+use Rattle.std.specs.Prelude.{Some}
+use Rattle.node_config.proofs.Readings.{is_nil, not_nil}
 use Rattle.node_config.proofs.value.path_at.Goals as goal
 
--- src/value.rt:68:9
 pub returns-then-is_empty : goal.returns-then-is_empty
-returns-then-is_empty c = ?
+returns-then-is_empty c =
+    inl (inr (
+      Some (c.in-Some.line, c.in-Some.text.now),
+      rw c.in-Some.is at c.in_ok-line.ensures,
+      inl (c.at.result, (c.at.ensures, λ x h. h.1 (is_nil c.in-Some.text.now c.is_empty.result c.is_empty.ensures c.if-is_empty.true)), refl),
+    ))
 
--- src/value.rt:61:1
 pub returns : goal.returns
-returns c = ?
+returns c =
+    inr (
+      Some (c.in-Some.line, c.in-Some.text.now),
+      rw c.in-Some.is at c.in_ok-line.ensures,
+      inr (string_bytes c.in_ok-from_str.field-0, (c.in_ok-from_str.ensures.ok, not_nil c.in-Some.text.now c.is_empty.result c.is_empty.ensures c.if-is_empty.false), refl),
+    )

@@ -1,12 +1,12 @@
-use Rattle.std.proofs.Common.{rules, ℕ, List, MatchOption, string_bytes, ◌≡◌, ◌+◌, ◌-◌, ◌*◌, ◌<◌, ◌≤◌, length, ◌/◌, ◌%◌, Bool, true, false, nat_eq, nat_lt, [], ◌∷◌, ◌++◌, slice_index_or, slice_set, bit_and, bit_or, Fits, w8, w32, w64, Bor, MutBor}
-use Rattle.std.specs.Option.{option_map}
-use Rattle.ndn_names.specs.ReadsAs.{ReadsAs}
+use Rattle.std.specs.Prelude.{Some}
+use Rattle.node_config.specs.Reading.{Gives}
+use Rattle.node_config.specs.Keys.{text_in}
+use Rattle.node_config.specs.Values.{PrefixIfGiven}
 use Rattle.info_rules.specs.Shown.{keys_of}
-use Rattle.node_config.specs.declared.fault.ConfigFaultKind.TheVariants.{BadPrefix}
-use Rattle.node_config.specs.Reading.{Meets}
-use Rattle.node_config.specs.Values.{PathAt, PrefixAt, Spelled, ValueAt, ValueOr}
+use Rattle.node_config.proofs.Readings.{meets_then}
 use Rattle.node_config.proofs.value.prefix_at.Goals as goal
 
--- src/value.rt:86:1
 pub returns-in-Some : goal.returns-in-Some
-returns-in-Some c = ?
+returns-in-Some c =
+    meets_then (Gives (text_in c.args.word.now (keys_of c.args.keys))) PrefixIfGiven (λ name. name) (Some (c.in-Some.line, c.in-Some.text.now))
+    (rw c.in-Some.is at c.in_ok-line.ensures) c.name_of.result c.name_of.ensures

@@ -1,16 +1,11 @@
-use Rattle.std.proofs.Common.{rules, ℕ, List, MatchOption, string_bytes, ◌≡◌, ◌+◌, ◌-◌, ◌*◌, ◌<◌, ◌≤◌, length, ◌/◌, ◌%◌, Bool, true, false, nat_eq, nat_lt, [], ◌∷◌, ◌++◌, slice_index_or, slice_set, bit_and, bit_or, Fits, w8, w32, w64, Bor, MutBor}
-use Rattle.std.specs.Option.{option_map}
-use Rattle.ndn_names.specs.ReadsAs.{ReadsAs}
-use Rattle.info_rules.specs.Shown.{keys_of}
-use Rattle.node_config.specs.declared.fault.ConfigFaultKind.TheVariants.{BadPrefix}
-use Rattle.node_config.specs.Reading.{Meets}
-use Rattle.node_config.specs.Values.{PathAt, PrefixAt, Spelled, ValueAt, ValueOr}
+use Rattle.std.proofs.Common.{refl, inl, inr}
+use Rattle.std.specs.Prelude.{Some}
 use Rattle.node_config.proofs.value.value_at.Goals as goal
 
--- src/value.rt:28:1
 pub returns-in-Some-of_text : goal.returns-in-Some-of_text
-returns-in-Some-of_text g c = ?
+returns-in-Some-of_text g c =
+    inr (Some (c.in-Some.line, c.in-Some.text.now), rw c.in-Some.is at c.in_ok-line.ensures, inr (c.in-Some-of_text.value, c.in-Some-of_text.ensures, refl))
 
--- src/value.rt:28:1
 pub returns-in-None : goal.returns-in-None
-returns-in-None g c = ?
+returns-in-None g c =
+    inr (Some (c.in-Some.line, c.in-Some.text.now), rw c.in-Some.is at c.in_ok-line.ensures, inl (c.at.result, (c.at.ensures, c.in-None.ensures), refl))

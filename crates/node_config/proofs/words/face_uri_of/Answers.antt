@@ -1,13 +1,8 @@
-use Rattle.std.proofs.Common.{rules, ℕ, MatchOption, ◌≡◌, ◌+◌, ◌-◌, ◌*◌, ◌<◌, ◌≤◌, length, ◌/◌, ◌%◌, Bool, true, false, nat_eq, nat_lt, List, [], ◌∷◌, ◌++◌, slice_index_or, slice_set, bit_and, bit_or, Fits, w8, w32, w64, Bor, MutBor}
-use Rattle.node_config.specs.Endpoint.{IsEndpoint, IsPort}
-use Rattle.node_config.specs.FaceUri.{IsFaceUri, IsUdp4, IsUdp6}
-use Rattle.node_config.specs.Words.{IsCapacity, IsConsent, IsLevel, IsScope, IsSeconds, IsTurns}
+use Rattle.node_config.proofs.FaceUris.{no_face_uri, no_face_uri4, no_face_uri6}
 use Rattle.node_config.proofs.words.face_uri_of.Goals as goal
 
--- src/words.rt:78:9
 pub returns-in-None : goal.returns-in-None
-returns-in-None c = ?
+returns-in-None c = no_face_uri4 c.args.text.now c.in-Some.rest.now ? c.in-None.ensures
 
--- src/words.rt:84:9
 pub returns-in-None-udp6_of : goal.returns-in-None-udp6_of
-returns-in-None-udp6_of c = ?
+returns-in-None-udp6_of c = no_face_uri6 c.args.text.now ? ? ?

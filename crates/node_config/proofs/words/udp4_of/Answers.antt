@@ -1,13 +1,9 @@
-use Rattle.std.proofs.Common.{rules, ℕ, MatchOption, ◌≡◌, ◌+◌, ◌-◌, ◌*◌, ◌<◌, ◌≤◌, length, ◌/◌, ◌%◌, Bool, true, false, nat_eq, nat_lt, List, [], ◌∷◌, ◌++◌, slice_index_or, slice_set, bit_and, bit_or, Fits, w8, w32, w64, Bor, MutBor}
-use Rattle.node_config.specs.Endpoint.{IsEndpoint, IsPort}
-use Rattle.node_config.specs.FaceUri.{IsFaceUri, IsUdp4, IsUdp6}
-use Rattle.node_config.specs.Words.{IsCapacity, IsConsent, IsLevel, IsScope, IsSeconds, IsTurns}
+use Rattle.std.proofs.Common.{sym, ◌∙◌}
+use Rattle.node_config.proofs.FaceUris.{no_udp4}
 use Rattle.node_config.proofs.words.udp4_of.Goals as goal
 
--- src/words.rt:50:9
 pub returns-in_default : goal.returns-in_default
-returns-in_default c = ?
+returns-in_default c = λ x h. c.in_default.ensures.value x h.0
 
--- src/words.rt:53:9
 pub returns-then-port-eq0 : goal.returns-then-port-eq0
-returns-then-port-eq0 c = ?
+returns-then-port-eq0 c = no_udp4 c.args.text.now c.in-Ok.endpoint c.in-Ok.ensures.value (sym c.port.ensures ∙ c.if-port-eq0.true)

@@ -1,9 +1,7 @@
-use Rattle.std.proofs.Common.{rules, ℕ, MatchOption, ◌≡◌, ◌+◌, ◌-◌, ◌*◌, ◌<◌, ◌≤◌, length, ◌/◌, ◌%◌, Bool, true, false, nat_eq, nat_lt, List, [], ◌∷◌, ◌++◌, slice_index_or, slice_set, bit_and, bit_or, Fits, w8, w32, w64, Bor, MutBor}
-use Rattle.node_config.specs.Endpoint.{IsEndpoint, IsPort}
-use Rattle.node_config.specs.FaceUri.{IsFaceUri, IsUdp4, IsUdp6}
-use Rattle.node_config.specs.Words.{IsCapacity, IsConsent, IsLevel, IsScope, IsSeconds, IsTurns}
+use Rattle.std.proofs.Common.{sym, ◌∙◌}
+use Rattle.node_config.proofs.Endpoints.{no_endpoint, port_zero}
 use Rattle.node_config.proofs.words.SocketAddrValue.of_text.Goals as goal
 
--- src/words.rt:39:13
 pub returns-then-port-eq0 : goal.returns-then-port-eq0
-returns-then-port-eq0 c = ?
+returns-then-port-eq0 c =
+    no_endpoint c.args.text.now c.in_default.ensures (port_zero _ c.in-Ok.endpoint c.in-Ok.ensures.value (sym c.port.ensures ∙ c.if-port-eq0.true))
