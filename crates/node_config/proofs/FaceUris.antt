@@ -1,7 +1,8 @@
 -- A text spells at most one FaceUri. Texts that spell none.
-use Rattle.std.proofs.Common.{◌≡◌, ℕ, ◌+◌, ◌<◌, ◌≤◌, List, [], ◌∷◌, ◌++◌, length, drop, codes, refl, sym, ap, ◌∙◌, subst, arith, inl, inr}
+use Rattle.std.proofs.Common.{◌≡◌, ℕ, ◌+◌, ◌<◌, ◌≤◌, List, [], ◌∷◌, ◌++◌, length, drop, get_or, codes, refl, sym, ap, ◌∙◌, subst, arith, inl, inr}
 use Rattle.std.specs.Prelude.{Option, None, Some}
 use Rattle.std.specs.Net.Grammar.{IsSocketV4Text, IsSocketV6Text}
+use Rattle.std.specs.Str.Pattern.{FindsTextPrefix, StripsPrefix}
 use Rattle.std.specs.Net.Socket.{v4_port, v6_port, v6_scope_id}
 use Rattle.std.specs.declared.net.socket_addr.SocketAddrV4.{SocketAddrV4}
 use Rattle.std.specs.declared.net.socket_addr.SocketAddrV6.{SocketAddrV6}
@@ -15,9 +16,13 @@ same_rest : (front a b : List ℕ) → front ++ a ≡ front ++ b → a ≡ b
 same_rest [] a b e = e
 same_rest (x ∷ front) a b e = same_rest front a b (ap (drop 1) e)
 
+-- what is left of a text after its beginning is the rest
+pub stripped : (front text rest : List ℕ) → StripsPrefix (FindsTextPrefix front) text rest → text ≡ front ++ rest
+stripped front text rest h = h.1.1 ∙ ap (λ (t : List ℕ). front ++ t) (sym h.2)
+
 -- the beginnings of the two forms differ
 four_or_six : (a b : List ℕ) → codes "udp4://" ++ a ≡ codes "udp6://" ++ b → ⊥
-four_or_six a b e = cc e
+four_or_six a b e = let differ : 52 ≡ 54 = ap (λ (t : List ℕ). get_or t 3 0) e in absurd (omega (arith, differ))
 
 pub one_face_uri : (text : List ℕ) (a b : SocketAddr) → IsFaceUri text a → IsFaceUri text b → a ≡ b
 one_face_uri text (V4 a) (V4 b) h k =

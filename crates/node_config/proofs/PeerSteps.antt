@@ -1,7 +1,8 @@
 -- Peers are read one after another.
 use Rattle.std.proofs.Common.{◌≡◌, ℕ, ◌+◌, ◌<◌, ◌≤◌, List, [], ◌∷◌, ◌++◌, length, map, refl, sym, ap, subst, inl, inr, arith}
-use Rattle.std.specs.Prelude.{Result, Ok, Err}
-use Rattle.std.proofs.lemmas.List.{length-map}
+use Rattle.std.specs.Prelude.{All, Result, Ok, Err}
+use Rattle.std.proofs.lemmas.List.{get_or-map, length-map}
+use Rattle.std.proofs.lemmas.List.Elements.{All-map}
 use Rattle.std.specs.declared.net.socket_addr.SocketAddr.{SocketAddr}
 use Rattle.info_rules.specs.Tree.{Block}
 use Rattle.node_config.specs.declared.config.Peer.{Peer}
@@ -38,3 +39,12 @@ few_before own before key found (inr h) = named_after_few before key.0.key key.0
 pub plain_pushed : (peers : List Peer) (peer : Peer) → map plain_peer (peers ++ peer ∷ []) ≡ map plain_peer peers ++ plain_peer peer ∷ []
 plain_pushed [] peer = refl
 plain_pushed (first ∷ peers) peer = ap (λ (t : List PlainPeer). plain_peer first ∷ t) (plain_pushed peers peer)
+
+-- a fact about all peers is one about what contracts see of them
+
+pub to_plain : (P : PlainPeer → Type 0) (peers : List Peer) → All (λ peer. P (plain_peer peer)) peers → All P (map plain_peer peers)
+to_plain P peers h = All-map P plain_peer peers h
+
+pub from_plain : (P : PlainPeer → Type 0) (peers : List Peer) → All P (map plain_peer peers) → All (λ peer. P (plain_peer peer)) peers
+from_plain P peers h k d inside =
+    subst P (get_or-map plain_peer peers k d (plain_peer d) inside) (h k (plain_peer d) (subst (λ (n : ℕ). k < n) (sym (length-map peers plain_peer)) inside))

@@ -1,9 +1,16 @@
 -- A file has at most one configuration, or at most one fault that is reported.
-use Rattle.std.proofs.Common.{◌≡◌, ℕ, List, [], ◌∷◌, ◌++◌, refl}
+use Rattle.std.proofs.Common.{◌≡◌, ℕ, ◌-◌, ◌^◌, List, [], ◌∷◌, ◌++◌, refl, codes, true, false}
 use Rattle.std.specs.Prelude.{Option, None, Some, Ok, Err}
 use Rattle.std.specs.declared.net.socket_addr.SocketAddr.{SocketAddr}
 use Rattle.info_rules.specs.Tree.{Block, blocks_of}
 use Rattle.node_config.specs.declared.config.Scope.{Scope}
+use Rattle.node_config.specs.declared.config.LogLevel.TheVariants as levels
+use Rattle.node_config.specs.declared.config.Scope.TheVariants.{Far}
+use Rattle.node_config.specs.declared.fault.ConfigFaultKind.TheVariants.{BadEndpoint, BadNumber, BadWord}
+use Rattle.node_config.specs.Endpoint.{IsEndpoint}
+use Rattle.node_config.specs.Keys.{line_in}
+use Rattle.node_config.specs.Values.{ValueAt}
+use Rattle.node_config.specs.Words.{IsCapacity, IsConsent, IsLevel, IsScope, IsSeconds, IsTurns}
 use Rattle.node_config.specs.File.{ConfigOf, EntriesOf, FileOf}
 use Rattle.node_config.specs.FaceUri.{IsFaceUri}
 use Rattle.node_config.specs.Peers.{EndpointOf, NameOf, PeerOf, PeersAfter, PeersOf, PlaceOf, ScopeOf, UriOf, peer_with}
@@ -23,43 +30,43 @@ sure_needed line None = sure_gives _
 sure_needed line (Some x) = sure_gives _
 
 sure_udp : (line : ℕ) (keys : List Block) → IsSure (UdpOf line keys)
-sure_udp line keys = sure_then _ _ (sure_value _ one_endpoint _ _ _) (sure_needed line)
+sure_udp line keys = sure_then (ValueAt IsEndpoint BadEndpoint (codes "udp") keys) (Needed line) (sure_value IsEndpoint one_endpoint BadEndpoint (codes "udp") keys) (sure_needed line)
 
 sure_listen : (file : List Block) → IsSure (ListenOf file)
 sure_listen file =
-    sure_then _ _ (sure_block _ _ file) λ keys.
-    sure_then _ _ (sure_udp _ keys) λ udp.
-    sure_then _ _ (sure_value _ one_endpoint _ _ keys) λ tcp.
-    sure_then _ _ (sure_path _ keys) λ unix.
-    sure_then _ _ (sure_value_or _ one_consent _ _ _ keys) λ strangers.
+    sure_then _ _ (sure_block (codes "listen") (codes "udp" ∷ codes "tcp" ∷ codes "unix" ∷ codes "strangers" ∷ []) file) λ keys.
+    sure_then _ _ (sure_udp (line_in (codes "listen") file) keys) λ udp.
+    sure_then _ _ (sure_value IsEndpoint one_endpoint BadEndpoint (codes "tcp") keys) λ tcp.
+    sure_then _ _ (sure_path (codes "unix") keys) λ unix.
+    sure_then _ _ (sure_value_or IsConsent one_consent BadWord (record { 0 = false }) (codes "strangers") keys) λ strangers.
     sure_gives _
 
 sure_paths : (file : List Block) → IsSure (FilesOf file)
 sure_paths file =
-    sure_then _ _ (sure_path _ file) λ rules.
-    sure_then _ _ (sure_path _ file) λ keys.
-    sure_then _ _ (sure_path _ file) λ journal.
+    sure_then _ _ (sure_path (codes "rules") file) λ rules.
+    sure_then _ _ (sure_path (codes "keys") file) λ keys.
+    sure_then _ _ (sure_path (codes "journal") file) λ journal.
     sure_gives _
 
 sure_repository : (file : List Block) → IsSure (RepositoryOf file)
-sure_repository file = sure_then _ _ (sure_block _ _ file) λ keys. sure_prefix _ keys
+sure_repository file = sure_then _ _ (sure_block (codes "repository") (codes "prefix" ∷ []) file) λ keys. sure_prefix (codes "prefix") keys
 
 sure_cache : (file : List Block) → IsSure (CacheOf file)
-sure_cache file = sure_then _ _ (sure_block _ _ file) λ keys. sure_value_or _ one_capacity _ _ _ keys
+sure_cache file = sure_then _ _ (sure_block (codes "cache") (codes "capacity" ∷ []) file) λ keys. sure_value_or IsCapacity one_capacity BadNumber (record { 0 = 1024 }) (codes "capacity") keys
 
 sure_limits : (file : List Block) → IsSure (LimitsOf file)
 sure_limits file =
     sure_then _ _ (sure_cache file) λ cache.
-    sure_then _ _ (sure_block _ _ file) λ keys.
-    sure_then _ _ (sure_value_or _ one_time _ _ _ keys) λ idle.
-    sure_then _ _ (sure_value_or _ one_number _ _ _ keys) λ turns.
+    sure_then _ _ (sure_block (codes "limits") (codes "idle_timeout" ∷ codes "turns" ∷ []) file) λ keys.
+    sure_then _ _ (sure_value_or IsSeconds one_time BadNumber (record { 0 = 600 }) (codes "idle_timeout") keys) λ idle.
+    sure_then _ _ (sure_value_or IsTurns one_number BadNumber (record { 0 = 2 ^ 64 - 1 }) (codes "turns") keys) λ turns.
     sure_gives _
 
 sure_log : (file : List Block) → IsSure (LogOf file)
 sure_log file =
-    sure_then _ _ (sure_block _ _ file) λ keys.
-    sure_then _ _ (sure_value_or _ one_level _ _ _ keys) λ level.
-    sure_then _ _ (sure_value_or _ one_consent _ _ _ keys) λ answers.
+    sure_then _ _ (sure_block (codes "log") (codes "level" ∷ codes "answers" ∷ []) file) λ keys.
+    sure_then _ _ (sure_value_or IsLevel one_level BadWord levels.None (codes "level") keys) λ level.
+    sure_then _ _ (sure_value_or IsConsent one_consent BadWord (record { 0 = true }) (codes "answers") keys) λ answers.
     sure_gives _
 
 sure_name : (before : List PlainPeer) (name : List ℕ) (line : ℕ) → IsSure (NameOf before name line)
@@ -70,7 +77,7 @@ sure_uri key None e = rw e (sure_gives _)
 sure_uri key (Some text) e = rw e (sure_finds _ _ (one_face_uri text))
 
 sure_scope : (keys : List Block) → IsSure (ScopeOf keys)
-sure_scope keys = sure_then _ _ (sure_gives _) λ known. sure_value_or _ one_scope _ _ _ keys
+sure_scope keys = sure_then _ _ (sure_gives _) λ known. sure_value_or IsScope one_scope BadWord Far (codes "scope") keys
 
 sure_endpoint : (own : SocketAddr) (before : List PlainPeer) (endpoint : SocketAddr) (line : ℕ) → IsSure (EndpointOf own before endpoint line)
 sure_endpoint own before endpoint line =
@@ -84,11 +91,11 @@ sure_place before endpoint scope line = sure_then _ _ (sure_needs _ _) λ here. 
 
 sure_peer : (own : SocketAddr) (before : List PlainPeer) (key : Block) → IsSure (PeerOf own before key)
 sure_peer own before key =
-    sure_then _ _ (sure_name before _ _) λ named.
+    sure_then _ _ (sure_name before key.0.key key.0.line) λ named.
     sure_then _ _ (sure_uri key key.0.value refl) λ endpoint.
-    sure_then _ _ (sure_scope _) λ scope.
-    sure_then _ _ (sure_endpoint own before endpoint _) λ possible.
-    sure_then _ _ (sure_place before endpoint scope _) λ placed.
+    sure_then _ _ (sure_scope (blocks_of 2 key.1)) λ scope.
+    sure_then _ _ (sure_endpoint own before endpoint key.0.line) λ possible.
+    sure_then _ _ (sure_place before endpoint scope key.0.line) λ placed.
     sure_gives _
 
 sure_after : (own : SocketAddr) (before : List PlainPeer) (keys : List Block) → IsSure (PeersAfter own before keys)

@@ -1,5 +1,5 @@
 -- The peers of a configuration file.
-use Rattle.std.specs.Prelude.{◌≡◌, ◌≢◌, ◌⊎◌, ℕ, ◌<◌, ◌≤◌, List, [], ◌∷◌, ◌++◌, length, Option, None, Some, Ok, Err, codes}
+use Rattle.std.specs.Prelude.{◌≡◌, ◌≢◌, ◌⊎◌, ℕ, ◌<◌, ◌≤◌, List, [], ◌∷◌, ◌++◌, All, length, Option, None, Some, Ok, Err, codes}
 use Rattle.std.specs.List.{AllByRecursion}
 use Rattle.std.specs.Net.Addr.{is_ipv4}
 use Rattle.std.specs.Net.Socket.{socket_ip}
@@ -33,7 +33,7 @@ abbrev pub NameOf : List PlainPeer → List ℕ → ℕ → Reading (Unit {0})
 NameOf before name line = do
   few ← Needs (length before < 64) (fault_on TooManyPeers line)
   valid ← Needs (IsPeerName name) (fault_on BadPeerName line)
-  Needs (AllByRecursion (λ peer. peer.name ≢ name) before) (fault_on NameTwice line)
+  Needs (All (λ peer. peer.name ≢ name) before) (fault_on NameTwice line)
 
 -- the endpoint of the FaceUri that is the key's value
 abbrev pub UriOf : Block → Reading SocketAddr
@@ -52,7 +52,7 @@ ScopeOf keys = do
 -- a node with the endpoint `own` can have the peer
 abbrev pub EndpointOf : SocketAddr → List PlainPeer → SocketAddr → ℕ → Reading (Unit {0})
 EndpointOf own before endpoint line = do
-  new ← Needs (AllByRecursion (λ peer. peer.endpoint ≢ endpoint) before) (fault_on UriTwice line)
+  new ← Needs (All (λ peer. peer.endpoint ≢ endpoint) before) (fault_on UriTwice line)
   other ← Needs (¬ (IsItself own endpoint)) (fault_on OwnUri line)
   specified ← Needs (¬ (IsUnspecified endpoint)) (fault_on NoAddress line)
   Needs (is_ipv4 (socket_ip endpoint) ≡ is_ipv4 (socket_ip own)) (fault_on OtherFamily line)
@@ -61,8 +61,7 @@ EndpointOf own before endpoint line = do
 abbrev pub PlaceOf : List PlainPeer → SocketAddr → Scope → ℕ → Reading (Unit {0})
 PlaceOf before endpoint scope line = do
   here ← Needs (scope ≡ Local → IsLoopback endpoint) (fault_on NotLoopback line)
-  Needs (scope ≡ Local → AllByRecursion (λ peer. peer.scope ≡ Local) before)
-      (fault_on LocalAfterFar line)
+  Needs (scope ≡ Local → All (λ peer. peer.scope ≡ Local) before) (fault_on LocalAfterFar line)
 
 -- the peer of the key, whose word is the peer's name; `before` are the peers before it
 abbrev pub PeerOf : SocketAddr → List PlainPeer → Block → Reading (SocketAddr × Scope)

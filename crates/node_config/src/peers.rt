@@ -1,7 +1,6 @@
 //! Reads the peers.
 
-ghost use Rattle.std.specs.Prelude.{◌≡◌, ◌≢◌, ◌↔◌, ◌<◌, ◌≤◌, IfOk, IsTrue, length, map};
-ghost use Rattle.std.specs.List.{AllByRecursion};
+ghost use Rattle.std.specs.Prelude.{◌≡◌, ◌≢◌, ◌↔◌, ◌<◌, ◌≤◌, All, IfOk, IsTrue, length, map, string_bytes};
 ghost use Rattle.std.specs.Net.Addr.{is_ipv4};
 ghost use Rattle.std.specs.Net.Socket.{socket_ip};
 ghost use Rattle.info_rules.specs.Shown.{key_of, keys_of};
@@ -71,30 +70,46 @@ fn has_room(before: &[Peer]) -> bool
     before.len() < MAX_PEERS
 }
 
+/// Returns whether the peer has this name.
+fn is_named(peer: &Peer, name: &str) -> bool
+    ensures { IsTrue result ↔ (string_bytes peer.now.name ≡ name.now) }
+{
+    peer.name.as_str() == name
+}
+
 /// Returns whether no peer in `before` has this name.
 fn is_new_name(before: &[Peer], name: &str) -> bool
-    ensures { IsTrue result
-        ↔ AllByRecursion (λ peer. peer.name ≢ name.now) (map plain_peer before.now) }
+    ensures { IsTrue result ↔ All (λ peer. string_bytes peer.name ≢ name.now) before.now }
 {
-    before.iter().all(|peer| peer.name.as_str() != name)
+    !before.iter().any(|peer| is_named(peer, name))
+}
+
+/// Returns whether the peer has this endpoint.
+fn is_at(peer: &Peer, endpoint: &SocketAddr) -> bool
+    ensures { IsTrue result ↔ (peer.now.endpoint ≡ endpoint.now) }
+{
+    peer.endpoint == *endpoint
 }
 
 /// Returns whether no peer in `before` has this endpoint.
 fn is_new_endpoint(before: &[Peer], endpoint: &SocketAddr) -> bool
-    ensures { IsTrue result
-        ↔ AllByRecursion (λ peer. peer.endpoint ≢ endpoint.now) (map plain_peer before.now) }
+    ensures { IsTrue result ↔ All (λ peer. peer.endpoint ≢ endpoint.now) before.now }
 {
-    before.iter().all(|peer| peer.endpoint != *endpoint)
+    !before.iter().any(|peer| is_at(peer, endpoint))
+}
+
+/// Returns whether the peer is Local.
+fn is_local(peer: &Peer) -> bool
+    ensures { IsTrue result ↔ (peer.now.scope ≡ Scope.Local) }
+{
+    matches!(peer.scope, Scope::Local)
 }
 
 /// Returns whether all peers in `before` are Local.
 fn are_local(before: &[Peer]) -> bool
-    ensures { IsTrue result
-        ↔ AllByRecursion (λ peer. peer.scope ≡ Scope.Local) (map plain_peer before.now) }
+    ensures { IsTrue result ↔ All (λ peer. peer.scope ≡ Scope.Local) before.now }
 {
-    before
-        .iter()
-        .all(|peer| matches!(peer.scope, Scope::Local))
+    before.iter().all(|peer| is_local(peer))
 }
 
 /// Returns whether the peer is not the node itself, whose endpoint for UDP is `own`.
@@ -131,8 +146,8 @@ fn may_have(scope: Scope, endpoint: &SocketAddr) -> bool
 
 /// Returns whether a peer with this scope can follow the peers in `before`.
 fn may_follow(scope: Scope, before: &[Peer]) -> bool
-    ensures { IsTrue result ↔ (scope ≡ Scope.Local
-        → AllByRecursion (λ peer. peer.scope ≡ Scope.Local) (map plain_peer before.now)) }
+    ensures { IsTrue result
+        ↔ (scope ≡ Scope.Local → All (λ peer. peer.scope ≡ Scope.Local) before.now) }
 {
     match scope {
         Scope::Local => are_local(before),

@@ -1,7 +1,8 @@
 //! Reads the blocks and keys of the file, except the peers.
 
-ghost use Rattle.std.specs.Prelude.{◌≡◌, map};
+ghost use Rattle.std.specs.Prelude.{◌≡◌, codes, map};
 ghost use Rattle.info_rules.specs.Shown.{keys_of};
+ghost use Rattle.node_config.specs.Keys.{line_in};
 ghost use Rattle.node_config.specs.Plain.{plain_files, plain_listen};
 ghost use Rattle.node_config.specs.Reading.{Meets, seen_as};
 ghost use Rattle.node_config.specs.Sections.{BlockOf, CacheOf, FilesOf, LimitsOf, ListenOf, LogOf, RepositoryOf, UdpOf};
@@ -34,13 +35,13 @@ fn block_with<'a>(
     Ok(keys)
 }
 
-/// Reads the endpoint for UDP from the keys of the block `listen`, which has the line `line`.
-fn read_udp(line: u32, keys: Keys<'_>) -> Result<SocketAddr, ConfigFault>
-    ensures { UdpOf line (keys_of keys.entry) result }
+/// Reads the endpoint for UDP from the keys of the block `listen`. `file` has the keys of the file.
+fn read_udp(file: Keys<'_>, keys: Keys<'_>) -> Result<SocketAddr, ConfigFault>
+    ensures { UdpOf (line_in (codes "listen") (keys_of file.entry)) (keys_of keys.entry) result }
 {
     match value_at(keys, "udp", ConfigFaultKind::BadEndpoint)? {
         Some(endpoint) => Ok(endpoint),
-        None => Err(ConfigFaultKind::Missing.at(line)),
+        None => Err(ConfigFaultKind::Missing.at(line_at(file, "listen"))),
     }
 }
 
@@ -49,7 +50,7 @@ pub fn read_listen(alloc: Global, file: Keys<'_>) -> Result<Listen, ConfigFault>
     ensures { Meets (ListenOf (keys_of file.entry)) plain_listen result }
 {
     let keys = block_with(file, "listen", &["udp", "tcp", "unix", "strangers"])?;
-    let udp = read_udp(line_at(file, "listen"), keys)?;
+    let udp = read_udp(file, keys)?;
     let tcp = value_at(keys, "tcp", ConfigFaultKind::BadEndpoint)?;
     let unix = path_at(alloc, keys, "unix")?;
     let strangers = value_or(keys, "strangers", ConfigFaultKind::BadWord, Consent(false))?;

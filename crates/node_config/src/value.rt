@@ -76,8 +76,10 @@ fn name_of(alloc: Global, line: u32, uri: &str) -> Result<NameBuf, ConfigFault>
 {
     match NameBuf::from_uri(alloc, uri) {
         Ok(name) => Ok(name),
-        Err(NameFault::Memory) => Err(ConfigFaultKind::Memory.at(0)),
-        Err(_) => Err(ConfigFaultKind::BadPrefix.at(line)),
+        Err(fault) => match fault {
+            NameFault::Memory => Err(ConfigFaultKind::Memory.at(0)),
+            _ => Err(ConfigFaultKind::BadPrefix.at(line)),
+        },
     }
 }
 

@@ -4,7 +4,7 @@ use Rattle.node_config.proofs.peers.read_peer.Goals as goal
 
 pub returns-in_err-check_name : goal.returns-in_err-check_name
 returns-in_err-check_name c =
-    let p = err_from_is_err_and c.from_residual-in_err-check_name.result c.from_residual-in_err-check_name.ensures.1 in
+    let p = err_from_is_err_and c.from_residual.result c.from_residual.ensures.1 in
     rw (p.1, p.2) (inl (c.in_err-check_name.field-0.0, c.in_err-check_name.ensures, refl))
 
 pub returns-in_err-endpoint : goal.returns-in_err-endpoint

@@ -7,7 +7,7 @@ use Rattle.node_config.proofs.reader.read_keys.Goals as goal
 
 pub returns-in_err-check_keys-clause-meets : goal.returns-in_err-check_keys-clause-meets
 returns-in_err-check_keys-clause-meets c =
-    let p = err_from_is_err_and c.from_residual-in_err-check_keys.result c.from_residual-in_err-check_keys.ensures.1 in
+    let p = err_from_is_err_and c.from_residual.result c.from_residual.ensures.1 in
     rw (p.1, p.2) (inl (inl (c.in_err-check_keys.field-0.0, c.in_err-check_keys.ensures, refl)))
 
 pub returns-in_err-listen-clause-meets : goal.returns-in_err-listen-clause-meets

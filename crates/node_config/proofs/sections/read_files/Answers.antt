@@ -7,7 +7,7 @@ use Rattle.node_config.proofs.sections.read_files.Goals as goal
 
 pub returns-in_err-rules : goal.returns-in_err-rules
 returns-in_err-rules c =
-    let p = err_from_is_err_and c.from_residual-in_err-rules.result c.from_residual-in_err-rules.ensures.1 in
+    let p = err_from_is_err_and c.from_residual.result c.from_residual.ensures.1 in
     rw (p.1, p.2) (or_memory c.in_err-rules.field-0.0 (λ h. inl (c.in_err-rules.field-0.0, h, refl)) c.in_err-rules.ensures)
 
 pub returns-in_err-keys : goal.returns-in_err-keys

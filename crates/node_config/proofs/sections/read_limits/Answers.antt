@@ -5,7 +5,7 @@ use Rattle.node_config.proofs.sections.read_limits.Goals as goal
 
 pub returns-in_err-cache : goal.returns-in_err-cache
 returns-in_err-cache c =
-    let p = err_from_is_err_and c.from_residual-in_err-cache.result c.from_residual-in_err-cache.ensures.1 in
+    let p = err_from_is_err_and c.from_residual.result c.from_residual.ensures.1 in
     rw (p.1, p.2) (inl (c.in_err-cache.field-0.0, c.in_err-cache.ensures, refl))
 
 pub returns-in_err-keys : goal.returns-in_err-keys

@@ -9,7 +9,7 @@ use Rattle.node_config.proofs.sections.read_listen.Goals as goal
 
 pub returns-in_err-keys : goal.returns-in_err-keys
 returns-in_err-keys c =
-    let p = err_from_is_err_and c.from_residual-in_err-keys.result c.from_residual-in_err-keys.ensures.1 in
+    let p = err_from_is_err_and c.from_residual.result c.from_residual.ensures.1 in
     rw (p.1, p.2) (inl (inl (c.in_err-keys.field-0.0, c.in_err-keys.ensures, refl)))
 
 pub returns-in_err-udp : goal.returns-in_err-udp
