@@ -1,13 +1,12 @@
 -- Nodes that a file configures: the options that a configuration stands for.
-use Rattle.std.specs.Prelude.{◌≡◌, ◌⊎◌, ℕ, ◌<◌, ◌≤◌, List, [], ◌∷◌, ◌++◌, Option, String, Bool, true, false, not, codes, length, map, count_by, ◌==◌, ◌||◌, if◌then◌else◌}
+use Rattle.std.specs.Prelude.{◌≡◌, ◌⊎◌, ℕ, ◌<◌, ◌≤◌, List, Err, not, codes, length, map, count_by, string_bytes}
 use Rattle.std.specs.Option.{option_map}
 use Rattle.node_config.specs.declared.config.LogLevel.{LogLevel as ConfigLevel}
 use Rattle.node_config.specs.declared.config.LogLevel.TheVariants as config_levels
-use Rattle.node_config.specs.declared.config.Scope.{Scope}
-use Rattle.node_config.specs.declared.config.Scope.TheVariants.{Local, Far}
 use Rattle.node_config.specs.declared.fault.ConfigFaultKind.TheVariants.{TooLarge}
 use Rattle.node_config.specs.File.{FileOf}
-use Rattle.node_config.specs.Plain.{PlainConfig}
+use Rattle.node_config.specs.Paths.{placed}
+use Rattle.node_config.specs.Plain.{PlainConfig, is_local}
 use Rattle.node_config.specs.Faults.{fault_on, memory_fault}
 use Rattle.ndn_daemon.specs.declared.fault.Fault.{Fault}
 use Rattle.ndn_daemon.specs.declared.fault.Fault.TheVariants.{Config}
@@ -16,9 +15,6 @@ use Rattle.ndn_daemon.specs.declared.udp_options.LogLevel.{LogLevel}
 use Rattle.ndn_daemon.specs.declared.udp_options.LogLevel.TheVariants as levels
 use Rattle.ndn_daemon.specs.declared.udp_options.UdpOptions.{UdpOptions}
 use Rattle.ndn_daemon.specs.Files.{IsUnread}
-use Rattle.ndn_daemon.specs.Options.{MayBePath}
-use Rattle.std.specs.Result.{result_err}
-use Rattle.std.specs.Prelude.{Result, Ok, Err}
 
 -- the fault is that of a configuration file with these octets, or it reports that memory ran out
 abbrev pub IsConfigFault : List ℕ → Fault → Type 0
@@ -33,28 +29,16 @@ IsConfigFileFault path octets why =
     ⊎ ((length octets ≤ 65536) × IsConfigFault octets why)
     ⊎ IsUnread (codes "configuration file") path why
 
-abbrev pub begins_with_slash : List ℕ → Bool
-begins_with_slash [] = false
-begins_with_slash (octet ∷ path) = octet == 47
-
--- the path, taken from the folder unless it begins with a slash
-abbrev pub placed : List ℕ → List ℕ → List ℕ
-placed folder path = if begins_with_slash path then path else folder ++ path
-
 abbrev pub level_of : ConfigLevel → LogLevel
 level_of config_levels.None = levels.None
 level_of config_levels.Events = levels.Events
 level_of config_levels.All = levels.All
 
-abbrev pub is_local : Scope → Bool
-is_local Local = true
-is_local Far = false
-
 -- the options of the node that the configuration describes; its paths are taken from the folder
 pub record AreConfigured (folder : List ℕ) (config : PlainConfig) (node : Options)
     (options : UdpOptions) : Type 0 where
-  pub rules : MayBePath (option_map (placed folder) config.files.rules) node.rules
-  pub keys : MayBePath (option_map (placed folder) config.files.keys) node.keys
+  pub rules : option_map string_bytes node.rules ≡ option_map (placed folder) config.files.rules
+  pub keys : option_map string_bytes node.keys ≡ option_map (placed folder) config.files.keys
   pub repo : node.repo ≡ config.prefix
   pub cache : node.cache ≡ config.limits.cache
   pub listen : options.listen ≡ config.listen.udp
@@ -64,7 +48,7 @@ pub record AreConfigured (folder : List ℕ) (config : PlainConfig) (node : Opti
   pub idle : options.idle ≡ config.limits.idle
   pub is_open : options.«open» ≡ config.listen.strangers
   pub log : options.log ≡ level_of config.log.level
-  pub journal : MayBePath (option_map (placed folder) config.files.journal) options.journal
+  pub journal : option_map string_bytes options.journal ≡ option_map (placed folder) config.files.journal
   pub quiet : options.quiet ≡ not config.log.answers
   pub tcp : options.tcp ≡ config.listen.tcp
-  pub unix : MayBePath (option_map (placed folder) config.listen.unix) options.unix
+  pub unix : option_map string_bytes options.unix ≡ option_map (placed folder) config.listen.unix

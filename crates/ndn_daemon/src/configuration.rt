@@ -1,22 +1,19 @@
 //! Nodes that a file configures.
-ghost use Rattle.std.specs.Prelude.{◌≡◌, ◌≤◌, IfOk, IfSome, MatchResult, Ok, count_by, length, map, string_bytes};
-ghost use Rattle.std.specs.Option.{option_map};
+ghost use Rattle.std.specs.Prelude.{◌≡◌, ◌≤◌, IfOk, IfSome, MatchResult, Ok, length};
 ghost use Rattle.node_config.specs.File.{FileOf};
 ghost use Rattle.node_config.specs.Plain.{plain_config};
-ghost use Rattle.ndn_daemon.specs.Configuration.{AreConfigured, IsConfigFileFault, is_local, level_of, placed};
-ghost use Rattle.ndn_daemon.specs.Options.{MayBePath};
+ghost use Rattle.ndn_daemon.specs.Configuration.{AreConfigured, IsConfigFileFault, level_of};
 
 use crate::fault::Fault;
 use crate::files::unread_config;
 use crate::options::Options;
 use crate::udp_options::{LogLevel, UdpOptions};
 use limited_reads::read_within;
-use node_config::{Config, ConfigFault, ConfigFaultKind, Listen, Peer, Scope};
+use node_config::{Config, ConfigFault, ConfigFaultKind, Listen, folder_of, placed_in};
 use node_core::{MAX_FACES, RunFault};
-use std::alloc::{AllocError, Global};
+use std::alloc::Global;
 use std::fs::File;
 use std::io::Read;
-use std::net::SocketAddr;
 use std::rt::Files;
 
 /// The greatest length of a configuration file, in octets.
@@ -56,52 +53,6 @@ pub fn read_config_file<R: Read + Drop>(alloc: Global, path: &str, file: R) -> R
     }
 }
 
-/// Returns the part of the path up to its last slash, or an empty text if it has none.
-fn folder_of(path: &str) -> &str {
-    match path.rfind('/') {
-        Some(place) => path.split_at(place.saturating_add(1)).0,
-        None => "",
-    }
-}
-
-/// Returns the path, taken from the folder unless it begins with a slash. `folder` is empty or ends
-/// with a slash.
-fn placed(alloc: Global, folder: &str, path: Option<String>) -> Result<Option<String>, AllocError>
-    ensures { IfOk result (MayBePath
-        (option_map (λ path. placed folder.now (string_bytes path)) path)) }
-{
-    let Some(path) = path else {
-        return Ok(None);
-    };
-    if path.starts_with('/') {
-        return Ok(Some(path));
-    }
-    let mut whole = String::from_str(alloc, folder)?;
-    whole.push_str(&path)?;
-    Ok(Some(whole))
-}
-
-/// Returns the endpoints of the peers, in order.
-fn endpoints_of(alloc: Global, peers: &[Peer]) -> Result<Vec<SocketAddr>, AllocError>
-    ensures { IfOk result (λ endpoints. endpoints.items ≡ map (λ peer. peer.endpoint) peers.now) }
-{
-    let mut endpoints = Vec::new(alloc);
-    for peer in peers {
-        endpoints.push(peer.endpoint)?;
-    }
-    Ok(endpoints)
-}
-
-/// Returns the number of Local peers.
-fn local_of(peers: &[Peer]) -> u64
-    ensures { result ≡ count_by (λ peer. is_local peer.scope) peers.now }
-{
-    peers
-        .iter()
-        .filter(|peer| matches!(peer.scope, Scope::Local))
-        .count() as u64
-}
-
 fn level_of(level: node_config::LogLevel) -> LogLevel
     ensures { result ≡ level_of level }
 {
@@ -124,13 +75,14 @@ pub fn options_of(
         (λ options. AreConfigured folder.now (plain_config config) options.0 options.1)
         (λ fault. fault ≡ Fault.Script RunFault.Memory) }
 {
+    let (endpoints, local) = (config.endpoints(alloc)?, config.count_local());
     let Config {
         listen,
         files,
         prefix,
         limits,
         log,
-        peers,
+        peers: _,
     } = config;
     let Listen {
         udp,
@@ -139,23 +91,23 @@ pub fn options_of(
         strangers,
     } = listen;
     let node = Options {
-        rules: placed(alloc, folder, files.rules)?,
-        keys: placed(alloc, folder, files.keys)?,
+        rules: placed_in(alloc, folder, files.rules)?,
+        keys: placed_in(alloc, folder, files.keys)?,
         repo: prefix,
         cache: limits.cache,
     };
     let options = UdpOptions {
         listen: udp,
         turns: limits.turns,
-        peers: endpoints_of(alloc, &peers)?,
-        local: local_of(&peers),
+        peers: endpoints,
+        local: local as u64,
         idle: limits.idle,
         open: strangers,
         log: level_of(log.level),
-        journal: placed(alloc, folder, files.journal)?,
+        journal: placed_in(alloc, folder, files.journal)?,
         quiet: !log.answers,
         tcp,
-        unix: placed(alloc, folder, unix)?,
+        unix: placed_in(alloc, folder, unix)?,
     };
     Ok((node, options))
 }

@@ -1,7 +1,7 @@
 -- Peers are read one after another.
-use Rattle.std.proofs.Common.{◌≡◌, ℕ, ◌+◌, ◌<◌, ◌≤◌, List, [], ◌∷◌, ◌++◌, length, map, refl, sym, ap, subst, inl, inr, arith}
+use Rattle.std.proofs.Common.{◌≡◌, ℕ, ◌+◌, ◌<◌, ◌≤◌, List, [], ◌∷◌, ◌++◌, length, map, refl, sym, ap, subst, inl, inr, arith, ◌∙◌, string_bytes}
 use Rattle.std.specs.Prelude.{All, Result, Ok, Err}
-use Rattle.std.proofs.lemmas.List.{get_or-map, length-map}
+use Rattle.std.proofs.lemmas.List.{get_or-map, length-map, length_push}
 use Rattle.std.proofs.lemmas.List.Elements.{All-map}
 use Rattle.std.specs.declared.net.socket_addr.SocketAddr.{SocketAddr}
 use Rattle.info_rules.specs.Tree.{Block}
@@ -48,3 +48,20 @@ to_plain P peers h = All-map P plain_peer peers h
 pub from_plain : (P : PlainPeer → Type 0) (peers : List Peer) → All P (map plain_peer peers) → All (λ peer. P (plain_peer peer)) peers
 from_plain P peers h k d inside =
     subst P (get_or-map plain_peer peers k d (plain_peer d) inside) (h k (plain_peer d) (subst (λ (n : ℕ). k < n) (sym (length-map peers plain_peer)) inside))
+
+module _ (peers new : List Peer) (peer : Peer) (key : Block) (pushed : new ≡ peers ++ peer ∷ []) where
+  -- one more peer at the end, which has the word of the key as its name
+  pub plain_new : string_bytes peer.name ≡ key.0.key → map plain_peer new ≡ map plain_peer peers ++ peer_with key (peer.endpoint, peer.scope) ∷ []
+  plain_new named =
+      let shown : PlainPeer → List PlainPeer = λ p. map plain_peer peers ++ p ∷ [] in
+      let same : plain_peer peer ≡ peer_with key (peer.endpoint, peer.scope) = ap (λ (name : List ℕ). named_peer name) named in
+      rw pushed (plain_pushed peers peer ∙ ap shown same)
+    where
+      named_peer : List ℕ → PlainPeer
+      named_peer name = record { name = name; endpoint = peer.endpoint; scope = peer.scope }
+
+  -- there are at most 64 peers
+  pub few_new : (own : SocketAddr) (found : SocketAddr × Scope) → PeerOf own (map plain_peer peers) key (Ok found) → length new ≤ 64
+  few_new own found h =
+      let before : length (map plain_peer peers) < 64 = few_before own (map plain_peer peers) key found h in
+      rw pushed (omega (arith, before, length-map peers plain_peer, length_push peers peer))

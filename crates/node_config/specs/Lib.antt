@@ -4,6 +4,7 @@ pub mod Keys
 pub mod Endpoint
 pub mod FaceUri
 pub mod Words
+pub mod Paths
 pub mod Plain
 pub mod Values
 pub mod Sections

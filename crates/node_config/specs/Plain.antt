@@ -1,5 +1,5 @@
 -- What contracts see of a configuration.
-use Rattle.std.specs.Prelude.{ℕ, List, Option, Bool, map, string_bytes}
+use Rattle.std.specs.Prelude.{ℕ, List, Option, Bool, true, false, map, string_bytes}
 use Rattle.std.specs.Option.{option_map}
 use Rattle.std.specs.declared.net.socket_addr.SocketAddr.{SocketAddr}
 use Rattle.ndn_tlv.specs.Element.{Field}
@@ -10,6 +10,11 @@ use Rattle.node_config.specs.declared.config.Listen.{Listen}
 use Rattle.node_config.specs.declared.config.Log.{Log}
 use Rattle.node_config.specs.declared.config.Peer.{Peer}
 use Rattle.node_config.specs.declared.config.Scope.{Scope}
+use Rattle.node_config.specs.declared.config.Scope.TheVariants.{Local, Far}
+
+abbrev pub is_local : Scope → Bool
+is_local Local = true
+is_local Far = false
 
 pub record PlainListen : Type 0 where
   pub udp : SocketAddr

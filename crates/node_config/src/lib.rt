@@ -5,6 +5,7 @@
 mod block;
 mod config;
 mod fault;
+mod paths;
 mod peers;
 mod reader;
 mod sections;
@@ -13,4 +14,5 @@ mod words;
 
 pub use config::{Config, Files, Limits, Listen, Log, LogLevel, Peer, Scope};
 pub use fault::{ConfigFault, ConfigFaultKind};
+pub use paths::{folder_of, placed_in};
 pub use reader::configurations_have_one_reading;

@@ -10,12 +10,12 @@ ghost use Rattle.node_config.specs.Plain.{plain_peer};
 ghost use Rattle.node_config.specs.Reading.{Meets, Needs};
 
 use crate::block::{block_at, check_keys};
-use crate::config::{Peer, Scope};
+use crate::config::{Config, Peer, Scope};
 use crate::fault::{ConfigFault, ConfigFaultKind};
 use crate::value::value_or;
 use crate::words::face_uri_of;
 use info_rules::{Key, Keys};
-use std::alloc::Global;
+use std::alloc::{AllocError, Global};
 use std::net::SocketAddr;
 
 /// The greatest number of peers.
@@ -275,4 +275,28 @@ pub fn read_peers(
         left = others;
     }
     Ok(peers)
+}
+
+impl Config {
+    ghost use Rattle.std.specs.Prelude.{◌≡◌, IfOk, count_by, map};
+    ghost use Rattle.node_config.specs.Plain.{is_local};
+
+    /// Returns the endpoints of the peers, in order.
+    pub fn endpoints(&self, alloc: Global) -> Result<Vec<SocketAddr>, AllocError>
+        ensures { IfOk result
+            (λ found. found.items ≡ map (λ peer. peer.endpoint) self.now.peers.items) }
+    {
+        let mut endpoints = Vec::new(alloc);
+        for peer in &self.peers {
+            endpoints.push(peer.endpoint)?;
+        }
+        Ok(endpoints)
+    }
+
+    /// Returns the number of Local peers. They are the first peers.
+    pub fn count_local(&self) -> usize
+        ensures { result ≡ count_by (λ peer. is_local peer.scope) self.now.peers.items }
+    {
+        self.peers.iter().filter(|peer| is_local(peer)).count()
+    }
 }

@@ -16,5 +16,5 @@ returns-in-Some-key_fault c =
 pub loop-key-preserved : goal.loop-key-preserved
 loop-key-preserved c =
     let words = map (λ word. word.now) c.args.words.now in
-    sym (rest_is_sound words (keys_of c.loop-key.left) (key_of c.in-Some.key) (keys_of c.in-Some.others) c.in-Some.ensures.0 (sym c.key_fault.ensures ∙ c.in_default.is))
+    sym (rest_is_sound words (keys_of c.loop-key.left) (key_of c.in-Some.key) (keys_of c.in-Some.others) c.in-Some.ensures.0 (sym c.key_fault.ensures ∙ c.in_default-key_fault.is))
     ∙ c.loop-key.invariant

@@ -15,13 +15,13 @@ returns-in_err-unless c =
 pub returns-in_err-unless-2 : goal.returns-in_err-unless-2
 returns-in_err-unless-2 c =
     let p = err_from_is_err_and c.from_residual-in_err-unless-2.result c.from_residual-in_err-unless-2.ensures.1 in
-    rw (p.1, p.2) (inr (tt, (λ t. to_plain (λ (peer : PlainPeer). peer.endpoint ≢ c.args.endpoint.now) c.args.before.now (c.is_new_endpoint.ensures.0 t)) c.in_ok-unless.ensures, inl (c.in_err-unless-2.field-0.0, needs_fact _ _ _ _ c.at-2.ensures c.is_other.ensures.0 c.is_other.ensures.1 (Err c.in_err-unless-2.field-0.0) c.in_err-unless-2.ensures, refl)))
+    rw (p.1, p.2) (inr (tt, to_plain (λ (peer : PlainPeer). peer.endpoint ≢ c.args.endpoint.now) c.args.before.now (c.is_new_endpoint.ensures.0 c.in_ok-unless.ensures), inl (c.in_err-unless-2.field-0.0, needs_fact _ _ _ _ c.at-2.ensures c.is_other.ensures.0 c.is_other.ensures.1 (Err c.in_err-unless-2.field-0.0) c.in_err-unless-2.ensures, refl)))
 
 pub returns-in_err-unless-3 : goal.returns-in_err-unless-3
 returns-in_err-unless-3 c =
     let p = err_from_is_err_and c.from_residual-in_err-unless-3.result c.from_residual-in_err-unless-3.ensures.1 in
-    rw (p.1, p.2) (inr (tt, (λ t. to_plain (λ (peer : PlainPeer). peer.endpoint ≢ c.args.endpoint.now) c.args.before.now (c.is_new_endpoint.ensures.0 t)) c.in_ok-unless.ensures, inr (tt, c.is_other.ensures.0 c.in_ok-unless-2.ensures, inl (c.in_err-unless-3.field-0.0, needs_fact _ _ _ _ c.at-3.ensures c.is_specified.ensures.0 c.is_specified.ensures.1 (Err c.in_err-unless-3.field-0.0) c.in_err-unless-3.ensures, refl))))
+    rw (p.1, p.2) (inr (tt, to_plain (λ (peer : PlainPeer). peer.endpoint ≢ c.args.endpoint.now) c.args.before.now (c.is_new_endpoint.ensures.0 c.in_ok-unless.ensures), inr (tt, c.is_other.ensures.0 c.in_ok-unless-2.ensures, inl (c.in_err-unless-3.field-0.0, needs_fact _ _ _ _ c.at-3.ensures c.is_specified.ensures.0 c.is_specified.ensures.1 (Err c.in_err-unless-3.field-0.0) c.in_err-unless-3.ensures, refl))))
 
 pub returns : goal.returns
 returns c =
-    inr (tt, (λ t. to_plain (λ (peer : PlainPeer). peer.endpoint ≢ c.args.endpoint.now) c.args.before.now (c.is_new_endpoint.ensures.0 t)) c.in_ok-unless.ensures, inr (tt, c.is_other.ensures.0 c.in_ok-unless-2.ensures, inr (tt, c.is_specified.ensures.0 c.in_ok-unless-3.ensures, needs_fact _ _ _ _ c.at-4.ensures c.are_of_one_family.ensures.0 c.are_of_one_family.ensures.1 c.unless-4.result c.unless-4.ensures)))
+    inr (tt, to_plain (λ (peer : PlainPeer). peer.endpoint ≢ c.args.endpoint.now) c.args.before.now (c.is_new_endpoint.ensures.0 c.in_ok-unless.ensures), inr (tt, c.is_other.ensures.0 c.in_ok-unless-2.ensures, inr (tt, c.is_specified.ensures.0 c.in_ok-unless-3.ensures, needs_fact _ _ _ _ c.at-4.ensures c.are_of_one_family.ensures.0 c.are_of_one_family.ensures.1 c.unless-4.result c.unless-4.ensures)))
