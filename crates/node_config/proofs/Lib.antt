@@ -2,6 +2,7 @@ pub mod KnownKeys
 pub mod Readings
 pub mod Endpoints
 pub mod FaceUris
+pub mod Folders
 pub mod PeerSteps
 pub mod Sure
 pub mod SureValues

@@ -1,6 +1,7 @@
 -- Peers are read one after another.
 use Rattle.std.proofs.Common.{◌≡◌, ℕ, ◌+◌, ◌<◌, ◌≤◌, List, [], ◌∷◌, ◌++◌, length, map, refl, sym, ap, subst, inl, inr, arith, ◌∙◌, string_bytes}
-use Rattle.std.specs.Prelude.{All, Result, Ok, Err}
+use Rattle.std.specs.Prelude.{All, Result, Ok, Err, cond, count_by}
+use Rattle.std.specs.List.{fold}
 use Rattle.std.proofs.lemmas.List.{get_or-map, length-map, length_push}
 use Rattle.std.proofs.lemmas.List.Elements.{All-map}
 use Rattle.std.specs.declared.net.socket_addr.SocketAddr.{SocketAddr}
@@ -9,7 +10,7 @@ use Rattle.node_config.specs.declared.config.Peer.{Peer}
 use Rattle.node_config.specs.declared.config.Scope.{Scope}
 use Rattle.node_config.specs.declared.fault.ConfigFault.{ConfigFault}
 use Rattle.node_config.specs.Peers.{NameOf, PeerOf, PeersAfter, peer_with}
-use Rattle.node_config.specs.Plain.{PlainPeer, plain_peer}
+use Rattle.node_config.specs.Plain.{PlainPeer, is_local, plain_peer}
 
 module _ (own : SocketAddr) (before : List PlainPeer) (all : List Block) (key : Block) (others : List Block) (is : all ≡ key ∷ others) where
   -- the fault of the first peer is reported
@@ -65,3 +66,16 @@ module _ (peers new : List Peer) (peer : Peer) (key : Block) (pushed : new ≡ p
   few_new own found h =
       let before : length (map plain_peer peers) < 64 = few_before own (map plain_peer peers) key found h in
       rw pushed (omega (arith, before, length-map peers plain_peer, length_push peers peer))
+
+-- what contracts see of peers has their endpoints and their scopes
+
+pub endpoints_shown : (peers : List Peer) → map (λ (peer : PlainPeer). peer.endpoint) (map plain_peer peers) ≡ map (λ (peer : Peer). peer.endpoint) peers
+endpoints_shown [] = refl
+endpoints_shown (peer ∷ peers) = ap (λ (t : List SocketAddr). peer.endpoint ∷ t) (endpoints_shown peers)
+
+local_from : (n : ℕ) (peers : List Peer) → fold (λ a (peer : PlainPeer). a + cond (is_local peer.scope) 1 0) n (map plain_peer peers) ≡ fold (λ a (peer : Peer). a + cond (is_local peer.scope) 1 0) n peers
+local_from n [] = refl
+local_from n (peer ∷ peers) = local_from (n + cond (is_local peer.scope) 1 0) peers
+
+pub local_shown : (peers : List Peer) → count_by (λ (peer : PlainPeer). is_local peer.scope) (map plain_peer peers) ≡ count_by (λ (peer : Peer). is_local peer.scope) peers
+local_shown peers = local_from 0 peers

@@ -1,12 +1,12 @@
 //! Reads the peers.
 
-ghost use Rattle.std.specs.Prelude.{◌≡◌, ◌≢◌, ◌↔◌, ◌<◌, ◌≤◌, All, IfOk, IsTrue, length, map, string_bytes};
+ghost use Rattle.std.specs.Prelude.{◌≡◌, ◌≢◌, ◌↔◌, ◌<◌, ◌≤◌, All, IfOk, IsTrue, count_by, length, map, string_bytes};
 ghost use Rattle.std.specs.Net.Addr.{is_ipv4};
 ghost use Rattle.std.specs.Net.Socket.{socket_ip};
 ghost use Rattle.info_rules.specs.Shown.{key_of, keys_of};
 ghost use Rattle.node_config.specs.Endpoint.{IsItself, IsLoopback, IsUnspecified};
 ghost use Rattle.node_config.specs.Peers.{EndpointOf, IsNameOctet, IsPeerName, NameOf, PeerOf, PeersOf, PlaceOf, ScopeOf, UriOf};
-ghost use Rattle.node_config.specs.Plain.{plain_peer};
+ghost use Rattle.node_config.specs.Plain.{is_local, plain_peer};
 ghost use Rattle.node_config.specs.Reading.{Meets, Needs};
 
 use crate::block::{block_at, check_keys};
@@ -99,7 +99,7 @@ fn is_new_endpoint(before: &[Peer], endpoint: &SocketAddr) -> bool
 }
 
 /// Returns whether the peer is Local.
-fn is_local(peer: &Peer) -> bool
+fn is_local_peer(peer: &Peer) -> bool
     ensures { IsTrue result ↔ (peer.now.scope ≡ Scope.Local) }
 {
     matches!(peer.scope, Scope::Local)
@@ -109,7 +109,7 @@ fn is_local(peer: &Peer) -> bool
 fn are_local(before: &[Peer]) -> bool
     ensures { IsTrue result ↔ All (λ peer. peer.scope ≡ Scope.Local) before.now }
 {
-    before.iter().all(|peer| is_local(peer))
+    before.iter().all(|peer| is_local_peer(peer))
 }
 
 /// Returns whether the peer is not the node itself, whose endpoint for UDP is `own`.
@@ -277,26 +277,51 @@ pub fn read_peers(
     Ok(peers)
 }
 
+/// Returns the endpoints of the peers, in order.
+fn endpoints_in(alloc: Global, peers: &[Peer]) -> Result<Vec<SocketAddr>, AllocError>
+    ensures { IfOk result (λ found. found.items ≡ map (λ peer. peer.endpoint) peers.now) }
+{
+    peers.iter().map(|peer| peer.endpoint).collect(alloc)
+}
+
+/// Returns whether the scope is Local.
+fn is_local_scope(scope: Scope) -> bool
+    ensures { result ≡ is_local scope }
+{
+    match scope {
+        Scope::Local => true,
+        Scope::Far => false,
+    }
+}
+
+/// Returns the number of Local peers.
+fn local_in(peers: &[Peer]) -> usize
+    ensures { result ≡ count_by (λ peer. is_local peer.scope) peers.now }
+{
+    peers
+        .iter()
+        .filter(|peer| is_local_scope(peer.scope))
+        .count()
+}
+
 impl Config {
     ghost use Rattle.std.specs.Prelude.{◌≡◌, IfOk, count_by, map};
-    ghost use Rattle.node_config.specs.Plain.{is_local};
+    ghost use Rattle.node_config.specs.Plain.{is_local, plain_config};
 
     /// Returns the endpoints of the peers, in order.
+    #[tactic(auto, using(crate::proofs::PeerSteps::endpoints_shown))]
     pub fn endpoints(&self, alloc: Global) -> Result<Vec<SocketAddr>, AllocError>
         ensures { IfOk result
-            (λ found. found.items ≡ map (λ peer. peer.endpoint) self.now.peers.items) }
+            (λ found. found.items ≡ map (λ peer. peer.endpoint) (plain_config self.now).peers) }
     {
-        let mut endpoints = Vec::new(alloc);
-        for peer in &self.peers {
-            endpoints.push(peer.endpoint)?;
-        }
-        Ok(endpoints)
+        endpoints_in(alloc, &self.peers)
     }
 
     /// Returns the number of Local peers. They are the first peers.
+    #[tactic(auto, using(crate::proofs::PeerSteps::local_shown))]
     pub fn count_local(&self) -> usize
-        ensures { result ≡ count_by (λ peer. is_local peer.scope) self.now.peers.items }
+        ensures { result ≡ count_by (λ peer. is_local peer.scope) (plain_config self.now).peers }
     {
-        self.peers.iter().filter(|peer| is_local(peer)).count()
+        local_in(&self.peers)
     }
 }
