@@ -1,6 +1,5 @@
 -- A text spells at most one FaceUri. Texts that spell none.
-use Rattle.std.proofs.Common.{◌≡◌, ℕ, ◌+◌, ◌<◌, ◌≤◌, List, [], ◌∷◌, ◌++◌, length, drop, get_or, codes, refl, sym, ap, ◌∙◌, subst, arith, inl, inr}
-use Rattle.std.specs.Prelude.{Option, None, Some}
+use Rattle.std.proofs.Common.{◌≡◌, ℕ, ◌<◌, List, [], ◌∷◌, ◌++◌, drop, get_or, codes, sym, ap, ◌∙◌, subst, arith}
 use Rattle.std.specs.Net.Grammar.{IsSocketV4Text, IsSocketV6Text}
 use Rattle.std.specs.Str.Pattern.{FindsTextPrefix, StripsPrefix}
 use Rattle.std.specs.Net.Socket.{v4_port, v6_port, v6_scope_id}

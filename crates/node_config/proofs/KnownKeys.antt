@@ -1,6 +1,6 @@
 -- The keys of a block are looked through one after another.
 use Rattle.std.proofs.Common.{◌≡◌, ℕ, List, [], ◌∷◌, Bor, map, refl, ap}
-use Rattle.std.specs.Prelude.{Option, None, Some, ◌||◌}
+use Rattle.std.specs.Prelude.{None, Some, ◌||◌}
 use Rattle.std.specs.List.{list_any}
 use Rattle.info_rules.specs.Tree.{Block, blocks_of, parted}
 use Rattle.info_rules.specs.Keys.{is_word}

@@ -1,11 +1,11 @@
 -- Results of readings.
-use Rattle.std.proofs.Common.{◌≡◌, ℕ, List, [], length, refl, inl, inr, ◌⊎◌, subst, sym, ap, ◌∙◌, Bool, true, false, IsTrue}
+use Rattle.std.proofs.Common.{◌≡◌, ℕ, List, [], length, refl, inl, inr, ◌⊎◌, sym, ◌∙◌, Bool, true, false, IsTrue}
 use Rattle.std.proofs.Common.{eqb-true}
 use Rattle.std.specs.Prelude.{Result, Ok, Err, ◌==◌}
 use Rattle.std.proofs.lemmas.List.{nil_from_length}
 use Rattle.node_config.specs.declared.fault.ConfigFault.{ConfigFault}
 use Rattle.node_config.specs.Faults.{memory_fault}
-use Rattle.node_config.specs.Reading.{Reading, ◌>>=◌, Gives, Meets, Needs, Finds}
+use Rattle.node_config.specs.Reading.{Reading, ◌>>=◌, Meets, Needs}
 
 -- memory may run out
 pub or_memory : {P Q : Type 0} (fault : ConfigFault) → (P → Q) → P ⊎ (fault ≡ memory_fault) → Q ⊎ (fault ≡ memory_fault)

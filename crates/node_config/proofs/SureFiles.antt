@@ -1,6 +1,6 @@
 -- A file has at most one configuration, or at most one fault that is reported.
 use Rattle.std.proofs.Common.{◌≡◌, ℕ, ◌-◌, ◌^◌, List, [], ◌∷◌, ◌++◌, refl, codes, true, false}
-use Rattle.std.specs.Prelude.{Option, None, Some, Ok, Err}
+use Rattle.std.specs.Prelude.{Option, None, Some}
 use Rattle.std.specs.declared.net.socket_addr.SocketAddr.{SocketAddr}
 use Rattle.info_rules.specs.Tree.{Block, blocks_of}
 use Rattle.node_config.specs.declared.config.Scope.{Scope}
@@ -12,10 +12,8 @@ use Rattle.node_config.specs.Keys.{line_in}
 use Rattle.node_config.specs.Values.{ValueAt}
 use Rattle.node_config.specs.Words.{IsCapacity, IsConsent, IsLevel, IsScope, IsSeconds, IsTurns}
 use Rattle.node_config.specs.File.{ConfigOf, EntriesOf, FileOf}
-use Rattle.node_config.specs.FaceUri.{IsFaceUri}
 use Rattle.node_config.specs.Peers.{EndpointOf, NameOf, PeerOf, PeersAfter, PeersOf, PlaceOf, ScopeOf, UriOf, peer_with}
 use Rattle.node_config.specs.Plain.{PlainPeer}
-use Rattle.node_config.specs.Reading.{Reading, ◌>>=◌}
 use Rattle.node_config.specs.Sections.{BlockOf, CacheOf, FilesOf, LimitsOf, ListenOf, LogOf, Needed, RepositoryOf, UdpOf}
 use Rattle.node_config.proofs.Endpoints.{one_endpoint}
 use Rattle.node_config.proofs.FaceUris.{one_face_uri}

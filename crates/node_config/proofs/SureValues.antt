@@ -1,21 +1,14 @@
 -- A text spells at most one value of each kind.
-use Rattle.std.proofs.Common.{◌≡◌, ℕ, List, Bool, true, false, refl, sym, ap, ◌∙◌}
+use Rattle.std.proofs.Common.{◌≡◌, ℕ, List, Bool, true, false, refl, sym, ◌∙◌}
 use Rattle.std.specs.Prelude.{Option, None, Some, Ok}
-use Rattle.ndn_tlv.specs.Element.{Field}
 use Rattle.ndn_names.specs.ReadsAs.{ReadsAs}
 use Rattle.ndn_names.proofs.Names.{done_is}
 use Rattle.ndn_names.proofs.PathReading.{text_again}
 use Rattle.info_rules.specs.Tree.{Block}
-use Rattle.node_config.specs.declared.config.LogLevel.{LogLevel}
 use Rattle.node_config.specs.declared.config.LogLevel.TheVariants as levels
-use Rattle.node_config.specs.declared.config.Scope.{Scope}
 use Rattle.node_config.specs.declared.config.Scope.TheVariants as scopes
 use Rattle.node_config.specs.declared.fault.ConfigFaultKind.{ConfigFaultKind}
 use Rattle.node_config.specs.declared.fault.ConfigFaultKind.TheVariants.{BadPath, BadPrefix}
-use Rattle.node_config.specs.declared.words.Capacity.{Capacity}
-use Rattle.node_config.specs.declared.words.Consent.{Consent}
-use Rattle.node_config.specs.declared.words.Seconds.{Seconds}
-use Rattle.node_config.specs.declared.words.Turns.{Turns}
 use Rattle.node_config.specs.Faults.{fault_on}
 use Rattle.node_config.specs.Keys.{text_in}
 use Rattle.node_config.specs.Reading.{Gives}

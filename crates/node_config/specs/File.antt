@@ -1,5 +1,5 @@
 -- Configuration files: which file is which configuration, and which fault another file has.
-use Rattle.std.specs.Prelude.{◌≡◌, ℕ, List, [], ◌∷◌, Result, Ok, Err, IsUtf8, codes}
+use Rattle.std.specs.Prelude.{ℕ, List, [], ◌∷◌, Result, Ok, Err, IsUtf8, codes}
 use Rattle.info_rules.specs.Tree.{Block, PlainEntry, blocks_of}
 use Rattle.info_rules.specs.TreeReading.{tree_in}
 use Rattle.info_rules.specs.declared.fault.RulesFault.{RulesFault}

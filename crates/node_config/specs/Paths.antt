@@ -1,5 +1,5 @@
 -- Paths that a configuration file spells, taken from the folder of the file.
-use Rattle.std.specs.Prelude.{◌≡◌, ◌≢◌, ◌⊎◌, ℕ, List, [], ◌∷◌, ◌++◌, All, Bool, true, false, ◌==◌, if◌then◌else◌}
+use Rattle.std.specs.Prelude.{◌≡◌, ◌≢◌, ◌⊎◌, ℕ, List, [], ◌∷◌, ◌++◌, All, Bool, false, ◌==◌, if◌then◌else◌}
 
 -- the part of the path up to its last slash, or nothing if the path has no slash
 abbrev pub IsFolderOf : List ℕ → List ℕ → Type 0

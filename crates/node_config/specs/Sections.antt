@@ -1,6 +1,6 @@
 -- The blocks and keys of a configuration file, except the peers. The argument `file` has the keys
 -- outside all blocks.
-use Rattle.std.specs.Prelude.{ℕ, ◌-◌, ◌^◌, List, [], ◌∷◌, Option, None, Some, Bool, true, false, Ok, Err, codes}
+use Rattle.std.specs.Prelude.{ℕ, ◌-◌, ◌^◌, List, [], ◌∷◌, Option, None, Some, true, false, Ok, Err, codes}
 use Rattle.std.specs.declared.net.socket_addr.SocketAddr.{SocketAddr}
 use Rattle.ndn_tlv.specs.Element.{Field}
 use Rattle.info_rules.specs.Tree.{Block}

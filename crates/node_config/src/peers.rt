@@ -253,11 +253,7 @@ fn read_peer(
 }
 
 /// Reads the block `peers` of a node with the endpoint `own`. `file` has the keys of the file.
-pub fn read_peers(
-    alloc: Global,
-    own: &SocketAddr,
-    file: Keys<'_>,
-) -> Result<Vec<Peer>, ConfigFault>
+pub fn read_peers(alloc: Global, own: &SocketAddr, file: Keys<'_>) -> Result<Vec<Peer>, ConfigFault>
     ensures meets { Meets (PeersOf own.now (keys_of file.entry))
         (λ peers. map plain_peer peers.items) result }
     ensures few { IfOk result (λ peers. length peers.items ≤ 64) }

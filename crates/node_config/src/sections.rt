@@ -22,11 +22,7 @@ const MOST_TURNS: u64 = 18_446_744_073_709_551_615;
 
 /// Returns the keys of the file's block `word`, or no keys if there is no such block. Each key of the
 /// block is one of `words`, and is given once. `file` has the keys of the file.
-fn block_with<'a>(
-    file: Keys<'a>,
-    word: &str,
-    words: &[&str],
-) -> Result<Keys<'a>, ConfigFault>
+fn block_with<'a>(file: Keys<'a>, word: &str, words: &[&str]) -> Result<Keys<'a>, ConfigFault>
     ensures { BlockOf word.now (map (λ word. word.now) words.now) (keys_of file.entry)
         (seen_as keys_of result) }
 {
@@ -98,7 +94,12 @@ pub fn read_limits(file: Keys<'_>) -> Result<Limits, ConfigFault>
 {
     let cache = read_cache(file)?;
     let keys = block_with(file, "limits", &["idle_timeout", "turns"])?;
-    let idle = value_or(keys, "idle_timeout", ConfigFaultKind::BadNumber, Seconds(600))?;
+    let idle = value_or(
+        keys,
+        "idle_timeout",
+        ConfigFaultKind::BadNumber,
+        Seconds(600),
+    )?;
     let turns = value_or(keys, "turns", ConfigFaultKind::BadNumber, Turns(MOST_TURNS))?;
     Ok(Limits {
         cache: cache.0,

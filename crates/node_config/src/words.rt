@@ -27,8 +27,7 @@ impl Value for SocketAddr {
     ghost spells = { IsEndpoint };
 
     /// Reads an address and a port. A port alone stands for the address 127.0.0.1 with this port.
-    fn of_text(text: &str) -> Option<SocketAddr>
-    {
+    fn of_text(text: &str) -> Option<SocketAddr> {
         if let Some(port) = port_of(text) {
             return Some(SocketAddr::new(IpAddr::V4(Ipv4Addr::LOCALHOST), port));
         }
@@ -96,8 +95,7 @@ pub struct Capacity(pub u32);
 impl Value for Capacity {
     ghost spells = { IsCapacity };
 
-    fn of_text(digits: &str) -> Option<Capacity>
-    {
+    fn of_text(digits: &str) -> Option<Capacity> {
         if !digits.starts_with('+')
             && let Ok(number) = digits.parse::<u32>()
             && number > 0
@@ -116,8 +114,7 @@ pub struct Seconds(pub u32);
 impl Value for Seconds {
     ghost spells = { IsSeconds };
 
-    fn of_text(digits: &str) -> Option<Seconds>
-    {
+    fn of_text(digits: &str) -> Option<Seconds> {
         if !digits.starts_with('+')
             && let Ok(number) = digits.parse::<u32>()
             && number > 0
@@ -135,8 +132,7 @@ pub struct Turns(pub u64);
 impl Value for Turns {
     ghost spells = { IsTurns };
 
-    fn of_text(digits: &str) -> Option<Turns>
-    {
+    fn of_text(digits: &str) -> Option<Turns> {
         if !digits.starts_with('+')
             && let Ok(number) = digits.parse::<u64>()
         {
@@ -149,8 +145,7 @@ impl Value for Turns {
 impl Value for LogLevel {
     ghost spells = { IsLevel };
 
-    fn of_text(text: &str) -> Option<LogLevel>
-    {
+    fn of_text(text: &str) -> Option<LogLevel> {
         match text {
             "none" => Some(LogLevel::None),
             "events" => Some(LogLevel::Events),
@@ -163,8 +158,7 @@ impl Value for LogLevel {
 impl Value for Scope {
     ghost spells = { IsScope };
 
-    fn of_text(text: &str) -> Option<Scope>
-    {
+    fn of_text(text: &str) -> Option<Scope> {
         match text {
             "local" => Some(Scope::Local),
             "far" => Some(Scope::Far),
@@ -180,8 +174,7 @@ pub struct Consent(pub bool);
 impl Value for Consent {
     ghost spells = { IsConsent };
 
-    fn of_text(text: &str) -> Option<Consent>
-    {
+    fn of_text(text: &str) -> Option<Consent> {
         match text {
             "yes" => Some(Consent(true)),
             "no" => Some(Consent(false)),

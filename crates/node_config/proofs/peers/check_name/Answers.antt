@@ -3,7 +3,7 @@ use Rattle.std.proofs.lemmas.Result.{err_from_is_err_and}
 use Rattle.std.specs.Prelude.{Err}
 use Rattle.node_config.proofs.PeerSteps.{to_plain, from_plain}
 use Rattle.node_config.specs.Plain.{PlainPeer}
-use Rattle.std.proofs.Common.{◌≢◌, ◌≡◌}
+use Rattle.std.proofs.Common.{◌≢◌}
 use Rattle.node_config.proofs.Readings.{needs_fact}
 use Rattle.node_config.proofs.peers.check_name.Goals as goal
 

@@ -1,4 +1,4 @@
-use Rattle.std.proofs.Common.{◌≡◌, ◌++◌, ◌∷◌, [], List, map, subst, sym, ◌∙◌, inl, inr}
+use Rattle.std.proofs.Common.{List, map, subst, ◌∙◌, inl, inr}
 use Rattle.std.proofs.lemmas.Result.{err_from_is_err_and}
 use Rattle.std.specs.Prelude.{Ok, Err}
 use Rattle.info_rules.specs.Shown.{key_of, keys_of}
@@ -15,8 +15,8 @@ returns-in_err-endpoint-clause-meets c =
       keys_of c.in_ok-left.left,
       c.in_ok-left.ensures,
       c.loop-key.invariant.rest (Err c.in_err-endpoint.field-0.0)
-      (first_peer_fault c.args.own.now (map plain_peer c.loop-key.peers.items) (keys_of c.loop-key.left) (key_of c.in-Some.key) (keys_of c.in-Some.others) c.in-Some.ensures.0
-      c.in_err-endpoint.field-0.0 (rw c.deref.ensures.value at c.in_err-endpoint.ensures)),
+          (first_peer_fault c.args.own.now (map plain_peer c.loop-key.peers.items) (keys_of c.loop-key.left) (key_of c.in-Some.key) (keys_of c.in-Some.others) c.in-Some.ensures.0
+          c.in_err-endpoint.field-0.0 (rw c.deref.ensures.value at c.in_err-endpoint.ensures)),
     )))
 
 pub loop-key-preserved : goal.loop-key-preserved

@@ -11,9 +11,9 @@ use Rattle.node_config.proofs.peers.read_peers.Given as goal
 abbrev pub invariant-loop-key : goal.invariant-loop-key
 invariant-loop-key l = record {
   rest :
-    (r : Result (List PlainPeer) ConfigFault)
-    → PeersAfter l.own (map plain_peer l.peers.items) (keys_of l.left) r
-    → PeersAfter l.own [] (keys_of l.initial.left) r;
+      (r : Result (List PlainPeer) ConfigFault)
+      → PeersAfter l.own (map plain_peer l.peers.items) (keys_of l.left) r
+      → PeersAfter l.own [] (keys_of l.initial.left) r;
   few : length l.peers.items ≤ 64;
 }
 

@@ -3,7 +3,6 @@ use Rattle.std.proofs.lemmas.Result.{err_from_is_err_and}
 use Rattle.info_rules.specs.Shown.{keys_of}
 use Rattle.std.specs.Option.{option_map}
 use Rattle.std.proofs.Common.{string_bytes}
-use Rattle.info_rules.specs.Shown.{key_of}
 use Rattle.node_config.proofs.Readings.{or_memory}
 use Rattle.node_config.proofs.sections.read_listen.Goals as goal
 
