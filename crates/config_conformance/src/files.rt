@@ -15,12 +15,24 @@ fn shown(alloc: Global, octets: &[u8]) -> Option<String> {
 
 fn shown_config(alloc: Global, config: &Config) -> Option<String> {
     let listen = &config.listen;
-    let mut text = format!(in alloc; "{} {:?} {:?} {}", listen.udp, listen.tcp, listen.unix, listen.strangers).ok()?;
+    let mut text = format!(in alloc;
+        "{} {:?} {:?} {}",
+        listen.udp, listen.tcp, listen.unix, listen.strangers
+    )
+    .ok()?;
     let files = &config.files;
-    let more = format!(in alloc; " | {:?} {:?} {:?} {}", files.rules, files.keys, files.journal, config.prefix).ok()?;
+    let more = format!(in alloc;
+        " | {:?} {:?} {:?} {}",
+        files.rules, files.keys, files.journal, config.prefix
+    )
+    .ok()?;
     text.push_str(&more).ok()?;
     let limits = config.limits;
-    let more = format!(in alloc; " | {} {} {} {:?} {}", limits.cache, limits.idle, limits.turns, config.log.level, config.log.answers).ok()?;
+    let more = format!(in alloc;
+        " | {} {} {} {:?} {}",
+        limits.cache, limits.idle, limits.turns, config.log.level, config.log.answers
+    )
+    .ok()?;
     text.push_str(&more).ok()?;
     for peer in &config.peers {
         let more = format!(in alloc; " | {} {} {:?}", peer.name, peer.endpoint, peer.scope).ok()?;
@@ -79,7 +91,8 @@ peers
 }
 "#;
 
-const SHOWN: &str = r#"192.0.2.1:6363 Some(192.0.2.1:6363) Some("/run/ndn/node socket") true | Some("sample.rules") Some("sample.keys") Some("/var/lib/ndn/node.journal") /lab/repo | 65536 300 1000000 Events false | operator 127.0.0.1:6401 Local | router-b 192.0.2.7:6363 Far | archive 192.0.2.8:6363 Far"#;
+const SHOWN: &str =
+    r#"192.0.2.1:6363 Some(192.0.2.1:6363) Some("/run/ndn/node socket") true | Some("sample.rules") Some("sample.keys") Some("/var/lib/ndn/node.journal") /lab/repo | 65536 300 1000000 Events false | operator 127.0.0.1:6401 Local | router-b 192.0.2.7:6363 Far | archive 192.0.2.8:6363 Far"#;
 
 #[test]
 fn whole_file(rt: HostRuntime) {
@@ -182,7 +195,11 @@ fn shown_after(alloc: Global, own: &str, row: &str) -> Option<String> {
         Ok(config) => {
             let mut text = String::new(alloc);
             for peer in &config.peers {
-                let scope = if peer.scope == Scope::Local { " local" } else { "" };
+                let scope = if peer.scope == Scope::Local {
+                    " local"
+                } else {
+                    ""
+                };
                 let more = format!(in alloc; "{} {}{};", peer.name, peer.endpoint, scope).ok()?;
                 text.push_str(&more).ok()?;
             }
@@ -254,7 +271,10 @@ const ELSEWHERE: &str = "
 
 #[test]
 fn peers_elsewhere(rt: HostRuntime) {
-    assert_eq!(rt; first_misshown(rt.alloc(), ELSEWHERE, shown_elsewhere), None);
+    assert_eq!(rt;
+        first_misshown(rt.alloc(), ELSEWHERE, shown_elsewhere),
+        None
+    );
 }
 
 /// Returns a file with this number of peers, one on each line from the second on.
@@ -287,7 +307,16 @@ fn many(rt: HostRuntime) {
 
 #[test]
 fn octets(rt: HostRuntime) {
-    assert_eq!(rt; shown(rt.alloc(), b"rules \xff").as_deref(), Some("0 Syntax"));
-    assert_eq!(rt; shown(rt.alloc(), &[b'\n'; 65_536]).as_deref(), Some("0 Missing"));
-    assert_eq!(rt; shown(rt.alloc(), &[b'\n'; 65_537]).as_deref(), Some("0 TooLarge"));
+    assert_eq!(rt;
+        shown(rt.alloc(), b"rules \xff").as_deref(),
+        Some("0 Syntax")
+    );
+    assert_eq!(rt;
+        shown(rt.alloc(), &[b'\n'; 65_536]).as_deref(),
+        Some("0 Missing")
+    );
+    assert_eq!(rt;
+        shown(rt.alloc(), &[b'\n'; 65_537]).as_deref(),
+        Some("0 TooLarge")
+    );
 }

@@ -18,6 +18,7 @@ module _ {A B : Type 0} (Part : A → Type 0) (Whole : B → Type 0) (part : (y 
   wrong_part (fault.BadValue place wanted) h = none_whole h
   wrong_part fault.NotText h = h
   wrong_part (fault.Unread file path kind) h = h
+  wrong_part (fault.Config why) h = h
   wrong_part (fault.Rules why) h = h
   wrong_part (fault.Keys why) h = h
   wrong_part fault.LargeKeys h = h
@@ -33,6 +34,7 @@ module _ {A B : Type 0} (Part : A → Type 0) (Whole : B → Type 0) (part : (y 
   refused_part (fault.BadValue place wanted) h = none_whole h
   refused_part fault.NotText h = h
   refused_part (fault.Unread file path kind) h = h
+  refused_part (fault.Config why) h = h
   refused_part (fault.Rules why) h = h
   refused_part (fault.Keys why) h = h
   refused_part fault.LargeKeys h = h
@@ -52,6 +54,7 @@ module _ {A B : Type 0} (Part : A → Type 0) (Whole : B → Type 0) (part : (y 
   wrong_in_memory (fault.BadValue place wanted) h = none_whole h
   wrong_in_memory fault.NotText h = h
   wrong_in_memory (fault.Unread file path kind) h = h
+  wrong_in_memory (fault.Config why) h = h
   wrong_in_memory (fault.Rules why) h = h
   wrong_in_memory (fault.Keys why) h = h
   wrong_in_memory fault.LargeKeys h = h
@@ -73,6 +76,7 @@ bad_value_wrong Spell none (fault.CommandLine error) h = h
 bad_value_wrong Spell none (fault.BadValue place wanted) h = none
 bad_value_wrong Spell none fault.NotText h = h
 bad_value_wrong Spell none (fault.Unread file path kind) h = h
+bad_value_wrong Spell none (fault.Config why) h = h
 bad_value_wrong Spell none (fault.Rules why) h = h
 bad_value_wrong Spell none (fault.Keys why) h = h
 bad_value_wrong Spell none fault.LargeKeys h = h

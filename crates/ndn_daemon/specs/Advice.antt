@@ -73,3 +73,8 @@ advice_on_config line config.Memory = codes "out of memory"
 abbrev pub is_memory : RulesFaultKind → Bool
 is_memory rules.Memory = true
 is_memory kind = false
+
+-- whether the fault of a configuration file is that memory ran out
+abbrev pub is_config_memory : ConfigFaultKind → Bool
+is_config_memory config.Memory = true
+is_config_memory kind = false

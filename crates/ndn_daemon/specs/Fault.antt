@@ -13,7 +13,7 @@ use Rattle.node_config.specs.declared.fault.ConfigFaultKind.TheVariants as confi
 use Rattle.node_core.specs.declared.script.RunFault.{RunFault}
 use Rattle.node_core.specs.declared.script.RunFault.TheVariants.{BadLine, Read, Write, Node, Memory}
 use Rattle.file_faults.specs.Advice.{cause_of, key_text}
-use Rattle.ndn_daemon.specs.Advice.{advice_on_config, advice_on_rules, is_memory}
+use Rattle.ndn_daemon.specs.Advice.{advice_on_config, advice_on_rules, is_config_memory, is_memory}
 use Rattle.ndn_daemon.specs.declared.fault.Fault.{Fault}
 use Rattle.ndn_daemon.specs.declared.fault.Fault.TheVariants.{CommandLine, BadValue, NotText, Unread, Config, Rules, Keys, LargeKeys, Script, Unbound, UnboundTcp, UnboundUnix, Unreceived, Journal}
 use Rattle.ndn_daemon.specs.declared.fault.JournalFault.{JournalFault}
@@ -71,9 +71,10 @@ rules_fault_text line kind =
 
 -- the message for a fault of a configuration file: as for a rule file
 abbrev pub config_fault_text : ℕ → ConfigFaultKind → List ℕ
-config_fault_text line config_kinds.Memory = codes "error: out of memory\n"
-config_fault_text line kind = codes "config:" ++ decimal line ++ codes ": "
-    ++ config_fault_name kind ++ codes "\n  " ++ advice_on_config line kind ++ codes "\n"
+config_fault_text line kind =
+    if is_config_memory kind then codes "error: out of memory\n"
+    else codes "config:" ++ decimal line ++ codes ": " ++ config_fault_name kind ++ codes "\n  "
+    ++ advice_on_config line kind ++ codes "\n"
 
 abbrev pub run_fault_text : RunFault → List ℕ
 run_fault_text (BadLine line) = codes "script:" ++ (decimal line ++ (codes ": bad line\n  "

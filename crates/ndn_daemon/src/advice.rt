@@ -1,7 +1,7 @@
 //! The texts that explain the faults of a rule file or a configuration file, and say how to correct
 //! these faults.
 ghost use Rattle.std.specs.Prelude.{◌≡◌};
-ghost use Rattle.ndn_daemon.specs.Advice.{advice_on_config, advice_on_rules, is_memory};
+ghost use Rattle.ndn_daemon.specs.Advice.{advice_on_config, advice_on_rules, is_config_memory, is_memory};
 
 use info_rules::RulesFaultKind;
 use node_config::ConfigFaultKind;
@@ -110,4 +110,11 @@ pub fn is_memory(kind: RulesFaultKind) -> bool
     ensures { result ≡ is_memory kind }
 {
     matches!(kind, RulesFaultKind::Memory)
+}
+
+/// Returns whether the fault of a configuration file is that memory ran out.
+pub fn is_config_memory(kind: ConfigFaultKind) -> bool
+    ensures { result ≡ is_config_memory kind }
+{
+    matches!(kind, ConfigFaultKind::Memory)
 }

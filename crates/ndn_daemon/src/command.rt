@@ -151,7 +151,8 @@ Exit status:
 
 const ABOUT_RUN: &str = "Runs the node that a configuration file describes";
 
-const AFTER_RUN: &str = "The node does what `ndn_node udp` does with the options that CONFIG stands for.
+const AFTER_RUN: &str =
+    "The node does what `ndn_node udp` does with the options that CONFIG stands for.
 
 CONFIG has entries as a rule file: on each line a key, a key and its value, or a brace. A semicolon
 begins a comment. The least file says where the node listens:
@@ -184,7 +185,8 @@ Exit status:
 
 const ABOUT_CHECK: &str = "Checks a configuration file, and the rules and keys that it names";
 
-const AFTER_CHECK: &str = "The program reads CONFIG, and the rule file and the key file that it names, as `ndn_node run CONFIG`
+const AFTER_CHECK: &str =
+    "The program reads CONFIG, and the rule file and the key file that it names, as `ndn_node run CONFIG`
 does when it starts. It starts no node, and neither binds a port nor opens the journal. If there is
 no fault, it prints what it has read, such as `node.conf: peers 3, rules 4, keys 2`. Of several
 faults it reports the first.
@@ -383,14 +385,11 @@ fn config_command<'a>(
     about: &'a str,
     after: &'a str,
 ) -> Result<Command<'a>, AllocError> {
-    Command::new(alloc, name)
-        .about(about)
-        .after_help(after)
-        .arg(
-            Arg::new(alloc, "CONFIG")
-                .required(true)
-                .help("The configuration file"),
-        )
+    Command::new(alloc, name).about(about).after_help(after).arg(
+        Arg::new(alloc, "CONFIG")
+            .required(true)
+            .help("The configuration file"),
+    )
 }
 
 fn journal_command<'a>(alloc: Global) -> Result<Command<'a>, AllocError> {

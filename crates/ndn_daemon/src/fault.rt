@@ -1,5 +1,5 @@
 //! The faults of the program, with their messages and exit statuses.
-use crate::advice::{advice_on_config, advice_on_rules, is_memory};
+use crate::advice::{advice_on_config, advice_on_rules, is_config_memory, is_memory};
 use file_faults::{KeyMessage, cause_of};
 use info_rules::{RulesFault, RulesFaultKind};
 use key_files::KeyFault;
@@ -182,10 +182,9 @@ impl fmt::Display for Fault {
                     cause_of(*kind)
                 )
             }
-            Fault::Config(ConfigFault {
-                kind: ConfigFaultKind::Memory,
-                ..
-            }) => f.write_str("error: out of memory\n"),
+            Fault::Config(fault) if is_config_memory(fault.kind) => {
+                f.write_str("error: out of memory\n")
+            }
             Fault::Config(ConfigFault { line, kind }) => writeln!(
                 f,
                 "config:{line}: {}\n  {}",

@@ -5,8 +5,8 @@
 ghost use Rattle.std.specs.Prelude.{◌≤◌, length};
 
 use ndn_daemon::{
-    Fault, MachineClock, Options, Request, RuleFiles, UdpOptions, read_configuration,
-    report_fault, request_of, run_on_port, shorten_file,
+    Fault, MachineClock, Options, Request, RuleFiles, UdpOptions, read_configuration, report_fault,
+    request_of, run_on_port, shorten_file,
 };
 use node_core::{Node, NodeParts, RunFault, run_script};
 use node_ports::Moments;
@@ -117,8 +117,9 @@ fn check<R: AllocGlobal + Files + Print>(rt: &R, path: &str) -> Result<(), Fault
     let (rules, keys) = (parts.rules.len(), parts.keys.len());
     let _node = Node::new(rt.alloc(), parts).map_err(|fault| Fault::Script(RunFault::Node(fault)))?;
     let peers = options.peers.len();
-    println!(rt; "{path}: peers {peers}, rules {rules}, keys {keys}")
-        .map_err(|_| Fault::Script(RunFault::Write))
+    println!(rt; "{path}: peers {peers}, rules {rules}, keys {keys}").map_err(|_| Fault::Script(
+        RunFault::Write,
+    ))
 }
 
 /// Reads the rule file and the key file that the options name. Returns the parts of a node that has
