@@ -27,8 +27,8 @@ advice_on_rules line rules.AnyAnchor =
     codes "a trust anchor of type any would allow packets without a rule: write rules in its place"
 advice_on_rules line rules.Memory = codes "out of memory"
 
--- the text for a fault at this line of a configuration file; a Syntax fault at line 0 means that the
--- file is not UTF-8
+-- the text for a fault at this line of a configuration file; a Syntax fault at line 0 means that
+-- the file is not UTF-8
 unfoldable pub advice_on_config : ℕ → ConfigFaultKind → List ℕ
 advice_on_config zero config.Syntax = codes "the file is not UTF-8 text: write it in UTF-8 or ASCII"
 advice_on_config (suc line) config.Syntax =

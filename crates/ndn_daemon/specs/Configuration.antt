@@ -21,8 +21,8 @@ abbrev pub IsConfigFault : List ℕ → Fault → Type 0
 IsConfigFault octets (Config why) = FileOf octets (Err why) ⊎ (why ≡ memory_fault)
 IsConfigFault octets why = ⊥
 
--- the fault of a configuration file: the file has more than 65,536 octets, or the octets of the file
--- have a fault, or the file cannot be read, or memory ran out
+-- the fault of a configuration file: the file has more than 65,536 octets, or the octets of the
+-- file have a fault, or the file cannot be read, or memory ran out
 abbrev pub IsConfigFileFault : List ℕ → List ℕ → Fault → Type 0
 IsConfigFileFault path octets why =
     ((65536 < length octets) × (why ≡ Config (fault_on TooLarge 0)))
@@ -48,7 +48,8 @@ pub record AreConfigured (folder : List ℕ) (config : PlainConfig) (node : Opti
   pub idle : options.idle ≡ config.limits.idle
   pub is_open : options.«open» ≡ config.listen.strangers
   pub log : options.log ≡ level_of config.log.level
-  pub journal : option_map string_bytes options.journal ≡ option_map (placed folder) config.files.journal
+  pub journal : option_map string_bytes options.journal
+      ≡ option_map (placed folder) config.files.journal
   pub quiet : options.quiet ≡ not config.log.answers
   pub tcp : options.tcp ≡ config.listen.tcp
   pub unix : option_map string_bytes options.unix ≡ option_map (placed folder) config.listen.unix

@@ -65,12 +65,12 @@ fn read_tree(alloc: Global, octets: &[u8]) -> Result<InfoTree, ConfigFault>
 }
 
 impl Config {
-    /// Reads a configuration file: UTF-8 text of at most 65,536 octets, with entries as in a rule file
-    /// (`InfoTree::read`). A key of the file has a block, or else a value:
+    /// Reads a configuration file: UTF-8 text of at most 65,536 octets, with entries as in a rule
+    /// file (`InfoTree::read`). A key of the file has a block, or else a value:
     ///
-    /// - `listen`, which must be there: `udp` (an endpoint, which must be there), `tcp` (an endpoint),
-    ///   `unix` (a path) and `strangers` (`yes` or `no`; `no` if absent). An endpoint is a port of
-    ///   127.0.0.1, or an address and a port;
+    /// - `listen`, which must be there: `udp` (an endpoint, which must be there), `tcp` (an
+    ///   endpoint), `unix` (a path) and `strangers` (`yes` or `no`; `no` if absent). An endpoint is
+    ///   a port of 127.0.0.1, or an address and a port;
     /// - `rules`, `keys` and `journal`: the path of a file;
     /// - `repository`: `prefix` (the URI of a name; `/repo` if absent);
     /// - `cache`: `capacity` (1 to 65,536 Data; 1,024 if absent);
@@ -83,11 +83,12 @@ impl Config {
     ///   absent).
     ///
     /// Each key is given at most once. If the file has faults, returns the first one in this order:
-    /// the first fault of the text; the first key of the file that is unknown or given again; and then
-    /// the faults of the blocks and keys, in the order above. In a block, the first key that is unknown
-    /// or given again comes before the values, in the order above. The peers come in the order of the
-    /// file; for the faults of a peer see `ConfigFaultKind`, from `TooManyPeers` on, where the faults
-    /// of its block come before `UriTwice`. `Memory` may be returned for any file.
+    /// the first fault of the text; the first key of the file that is unknown or given again; and
+    /// then the faults of the blocks and keys, in the order above. In a block, the first key that is
+    /// unknown or given again comes before the values, in the order above. The peers come in the
+    /// order of the file. The faults of one peer come in the order of `ConfigFaultKind`, from
+    /// `TooManyPeers` on, with `BadShape` before `BadFaceUri`, and the faults of its block before
+    /// `UriTwice`. `Memory` may be returned for any file.
     pub fn read(alloc: Global, octets: &[u8]) -> Result<Config, ConfigFault>
         // The result is the configuration of the file, or the fault that is reported, or `Memory`.
         ensures meets { Meets (FileOf octets.now) plain_config result }

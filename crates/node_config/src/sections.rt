@@ -20,8 +20,8 @@ use std::net::SocketAddr;
 /// The number of turns of a node without the key `turns`.
 const MOST_TURNS: u64 = 18_446_744_073_709_551_615;
 
-/// Returns the keys of the file's block `word`, or no keys if there is no such block. Each key of the
-/// block is one of `words`, and is given once. `file` has the keys of the file.
+/// Returns the keys of the file's block `word`, or no keys if there is no such block. Each key of
+/// the block is one of `words`, and is given once. `file` has the keys of the file.
 fn block_with<'a>(file: Keys<'a>, word: &str, words: &[&str]) -> Result<Keys<'a>, ConfigFault>
     ensures { BlockOf word.now (map (λ word. word.now) words.now) (keys_of file.entry)
         (seen_as keys_of result) }
