@@ -1,0 +1,4 @@
+pub mod Firsts
+pub mod Cuts
+pub mod Steps
+pub mod Heads
