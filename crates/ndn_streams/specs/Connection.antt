@@ -1,5 +1,5 @@
 -- A connection: a stream that is read from a socket and written to it.
-use Rattle.std.specs.Prelude.{◌≡◌, ◌⊎◌, ℕ, ◌-◌, List, [], ◌++◌, length, min, take, Bool, false, Option, Some, Ok, IsTrue, nat_le, unwrap_or, ◌||◌}
+use Rattle.std.specs.Prelude.{◌≡◌, ◌⊎◌, ℕ, ◌-◌, List, [], ◌++◌, length, min, take, Bool, false, Option, None, Some, Ok, IsTrue, nat_le, unwrap_or, ◌||◌}
 use Rattle.ndn_streams.specs.Packet.{IsPacket}
 use Rattle.ndn_streams.specs.PacketStream.{StreamState}
 use Rattle.ndn_streams.specs.Queue.{pushed, written}
@@ -11,7 +11,9 @@ pub record ConnectionState : Type 0 where
   pub is_ready : Bool
   -- whether the other end may still send: it has not ended its sending
   pub is_open : Bool
-  -- whether the connection has failed, or its octets are no packets
+  -- whether the other end may still take octets: no write has failed
+  pub takes_octets : Bool
+  -- whether a read has failed, or the octets are no packets, or the time for a packet is over
   pub is_over : Bool
   -- when a packet was found to be begun and not whole, in milliseconds since 1970; None if no such
   -- packet is known
@@ -39,14 +41,28 @@ GivesPacket before after buffer len =
 abbrev pub after_sending : StreamState → List ℕ → ℕ → StreamState
 after_sending stream packet n = record stream { queue = written (pushed stream.queue packet) n }
 
--- whether the face of the connection must close: the connection is over, or the other end has ended
--- its sending and nothing waits for it
-abbrev pub IsDone : ConnectionState → Type 0
-IsDone c = IsTrue c.is_over ⊎ ((c.is_open ≡ false) × (c.stream.queue.waiting ≡ []))
+-- The noted time stays, and with it whether the other end may still send. Or the other end has
+-- ended its sending since, and no time is noted.
+abbrev pub KeepsTime : ConnectionState → ConnectionState → Type 0
+KeepsTime before after =
+    ((after.begun ≡ before.begun) × (after.is_open ≡ before.is_open))
+    ⊎ (IsTrue before.is_open × (after.is_open ≡ false) × (after.begun ≡ None))
 
--- the stream is in the middle of a packet, or the other end has ended its sending
+-- nothing that waits will be written: nothing waits, or a write has failed
+abbrev pub IsWritten : ConnectionState → Type 0
+IsWritten c = (c.stream.queue.waiting ≡ []) ⊎ (c.takes_octets ≡ false)
+
+-- whether the face of the connection must close: the connection is over, or the other end has ended
+-- its sending and nothing that waits will be written
+abbrev pub IsDone : ConnectionState → Type 0
+IsDone c = IsTrue c.is_over ⊎ ((c.is_open ≡ false) × IsWritten c)
+
+-- the stream is in the middle of a packet, the other end has ended its sending, or a write has
+-- failed
 abbrev pub IsPartial : ConnectionState → Type 0
-IsPartial c = ¬ (IsTrue c.is_open × ((c.stream.left ≡ Ok []) × (c.stream.came ≡ [])))
+IsPartial c =
+    ¬ ((IsTrue c.is_open × IsTrue c.takes_octets)
+    × ((c.stream.left ≡ Ok []) × (c.stream.came ≡ [])))
 
 -- the connection after it was found to be partial at the time `now`: it is over if it was found to
 -- be partial `limit` milliseconds ago

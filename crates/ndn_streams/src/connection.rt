@@ -1,5 +1,5 @@
-ghost use Rattle.std.specs.Prelude.{◌≡◌, ◌↔◌, ◌⊎◌, ℕ, ◌+◌, ◌≤◌, [], None, Ok, true, false, length, IfSome, IsOk, IsTrue};
-ghost use Rattle.ndn_streams.specs.Connection.{GivesPacket, IsDone, IsPartial, Passes, after_sending, partial_at};
+ghost use Rattle.std.specs.Prelude.{◌≡◌, ◌↔◌, ◌⊎◌, ℕ, ◌+◌, ◌≤◌, [], None, Ok, true, false, length, IfSome, IsOk, IsTrue, MatchOption};
+ghost use Rattle.ndn_streams.specs.Connection.{GivesPacket, IsDone, IsPartial, KeepsTime, Passes, after_sending, partial_at};
 ghost use Rattle.ndn_streams.specs.Queue.{pushed, written};
 
 use crate::packet_stream::PacketStream;
@@ -19,6 +19,7 @@ pub struct Connection<W> {
     stream: PacketStream,
     is_ready: bool,
     is_open: bool,
+    takes_octets: bool,
     is_over: bool,
     begun: Option<u64>,
 }
@@ -33,6 +34,7 @@ impl<W> Model for Connection<W> {
       stream = c.stream;
       is_ready = c.is_ready;
       is_open = c.is_open;
+      takes_octets = c.takes_octets;
       is_over = c.is_over;
       begun = c.begun;
     } };
@@ -48,6 +50,7 @@ impl<W: Read + Write> Connection<W> {
           stream = stream;
           is_ready = true;
           is_open = true;
+          takes_octets = true;
           is_over = false;
           begun = None;
         } }
@@ -57,6 +60,7 @@ impl<W: Read + Write> Connection<W> {
             stream,
             is_ready: true,
             is_open: true,
+            takes_octets: true,
             is_over: false,
             begun: None,
         }
@@ -83,24 +87,28 @@ impl<W: Read + Write> Connection<W> {
         self.is_ready || self.is_done() || !self.stream.wants_octets()
     }
 
-    /// Returns whether the face of the connection must close: the connection has failed, its octets
-    /// are no packets, or the other end has ended its sending and nothing waits for it.
+    /// Returns whether the face of the connection must close: a read has failed, the octets are no
+    /// packets, or the other end has ended its sending and nothing that waits will be written.
     pub fn is_done(&self) -> bool
         ensures { IsTrue result ↔ IsDone self.now }
     {
-        self.is_over || (!self.is_open && self.stream.waits() == 0)
+        self.is_over || (!self.is_open && (self.stream.waits() == 0 || !self.takes_octets))
     }
 
     /// Copies the next packet that has come to the start of the buffer, as far as the buffer is
     /// long enough, and returns how many octets were copied. Returns `None` if no whole packet has
     /// come, or if the connection is over. Also writes what the socket takes of the octets that
-    /// wait.
+    /// wait. If a write fails, nothing more is written, and the packets that come are still given.
     pub fn next_packet(&mut self, buffer: &mut [u8]) -> Option<usize>
         ensures packet { IfSome result
             (GivesPacket self.old.stream self.new.stream buffer.new) }
         ensures none { result ≡ None
             → IsTrue self.new.is_over ⊎ Passes self.old.stream self.new.stream [] }
         ensures over { IsTrue self.old.is_over → (result ≡ None) × (self.new ≡ self.old) }
+        // Of the octets that wait, the first ones are written.
+        ensures writes { (n : ℕ) × (self.new.stream.queue ≡ written self.old.stream.queue n) }
+        ensures begun { MatchOption result (KeepsTime self.old self.new)
+            (λ len. self.new.begun ≡ None) }
     {
         if self.is_over {
             return None;
@@ -126,6 +134,10 @@ impl<W: Read + Write> Connection<W> {
             (GivesPacket self.old.stream self.new.stream buffer.new) }
         ensures none { result ≡ None → IsTrue self.new.is_over
             ⊎ (Passes self.old.stream self.new.stream [] × (self.new.stream.came ≡ [])) }
+        ensures queue { self.new.stream.queue ≡ self.old.stream.queue }
+        ensures open { self.new.is_open ≡ self.old.is_open }
+        ensures begun { MatchOption result (self.new.begun ≡ self.old.begun)
+            (λ len. self.new.begun ≡ None) }
     {
         match self.stream.next_packet(buffer) {
             Ok(Some(len)) => {
@@ -145,7 +157,11 @@ impl<W: Read + Write> Connection<W> {
     fn read(&mut self) -> bool
         requires came { self.old.stream.came ≡ [] }
         requires going { self.old.is_over ≡ false }
-        ensures { Passes self.old.stream self.new.stream [] }
+        ensures passes { Passes self.old.stream self.new.stream [] }
+        ensures queue { self.new.stream.queue ≡ self.old.stream.queue }
+        ensures begun { KeepsTime self.old self.new }
+        ensures more { IsTrue result
+            → (self.new.begun ≡ self.old.begun) × (self.new.is_open ≡ self.old.is_open) }
     {
         if !self.is_ready || !self.is_open {
             self.is_ready = false;
@@ -166,11 +182,12 @@ impl<W: Read + Write> Connection<W> {
     }
 
     /// Queues a packet, and writes what the socket takes of the octets that wait. Returns false if
-    /// the queue has no room for the packet, which is dropped, or if the connection is over, also
-    /// since this write failed.
+    /// the queue has no room for the packet, which is dropped; if a write has failed, also this
+    /// one; or if the connection is over.
     pub fn send(&mut self, packet: &[u8]) -> bool
         ensures over { IsTrue self.old.is_over → (result ≡ false) × (self.new ≡ self.old) }
-        ensures full { result ≡ false → (self.old.is_over ≡ false) → IsTrue self.new.is_over
+        ensures failed { self.old.takes_octets ≡ false → (result ≡ false) × (self.new ≡ self.old) }
+        ensures full { result ≡ false → (self.old.is_over ≡ false) → (self.new.takes_octets ≡ false)
             ⊎ ((length self.old.stream.queue.waiting + length packet.now
             ≤ self.old.stream.queue.limit → ⊥)
             × (self.new ≡ record self.old {
@@ -182,33 +199,42 @@ impl<W: Read + Write> Connection<W> {
             → (length self.old.stream.queue.waiting + length packet.now
             ≤ self.old.stream.queue.limit)
             × ((n : ℕ) × (self.new.stream ≡ after_sending self.old.stream packet.now n)) }
+        // What is sent never ends the connection, nor changes what comes.
+        ensures comes { self.new ≡ record self.old {
+          stream = record self.old.stream { queue = self.new.stream.queue };
+          takes_octets = self.new.takes_octets;
+        } }
     {
-        if self.is_over || !self.stream.push(packet) {
+        if self.is_over || !self.takes_octets || !self.stream.push(packet) {
             return false;
         }
         self.write();
-        !self.is_over
+        self.takes_octets
     }
 
-    /// Writes what the socket takes of the octets that wait.
+    /// Writes what the socket takes of the octets that wait, unless a write has failed.
     fn write(&mut self)
-        ensures stream { (n : ℕ) × (self.new.stream
-            ≡ record self.old.stream { queue = written self.old.stream.queue n }) }
-        ensures over { IsTrue self.old.is_over → IsTrue self.new.is_over }
+        ensures writes { (n : ℕ) × (self.new ≡ record self.old {
+          stream = record self.old.stream { queue = written self.old.stream.queue n };
+          takes_octets = self.new.takes_octets;
+        }) }
     {
-        if self.stream.waits() > 0 && self.stream.write_to(&mut self.socket).is_err() {
-            self.is_over = true;
+        if self.takes_octets
+            && self.stream.waits() > 0
+            && self.stream.write_to(&mut self.socket).is_err()
+        {
+            self.takes_octets = false;
         }
     }
 
-    /// Ends the connection if it is in the middle of a packet, or the other end has ended its
-    /// sending and still has not got all that waits for it, and was found so `limit` milliseconds
-    /// before `now`. Call it from time to time. `now` is in milliseconds since 1970.
+    /// Ends the connection if it is in the middle of a packet, the other end has ended its sending
+    /// and still has not got all that waits for it, or a write has failed, and was found so `limit`
+    /// milliseconds before `now`. Call it from time to time. `now` is in milliseconds since 1970.
     pub fn check(&mut self, now: u64, limit: u64)
         ensures partial { IsPartial self.old → self.new ≡ partial_at now limit self.old }
         ensures whole { ¬ (IsPartial self.old) → self.new ≡ record self.old { begun = None } }
     {
-        if self.is_open && self.stream.is_between_packets() {
+        if self.is_open && self.takes_octets && self.stream.is_between_packets() {
             self.begun = None;
             return;
         }
@@ -236,7 +262,8 @@ enum Reading {
 fn read_once<R: Read>(stream: &mut PacketStream, socket: &mut R) -> Reading
     requires came { stream.old.came ≡ [] }
     requires whole { IsOk stream.old.left }
-    ensures { Passes stream.old stream.new [] }
+    ensures passes { Passes stream.old stream.new [] }
+    ensures queue { stream.new.queue ≡ stream.old.queue }
 {
     match stream.read_from(socket) {
         Ok(0) => Reading::End,

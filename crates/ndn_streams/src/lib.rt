@@ -20,4 +20,4 @@ pub use law::{
 };
 pub use packet_stream::{INBOX, PacketStream};
 pub use queue::Queue;
-pub use size::MAX_FRAME;
+pub use size::{MAX_FRAME, packet_size};

@@ -104,3 +104,13 @@ pub(crate) fn front_at(front: &[u8], back: &[u8]) -> Result<Option<usize>, Strea
 {
     whole_size_at(front, back)
 }
+
+/// Returns the size of the packet at the front of the octets, or `None` if they are a beginning of a
+/// packet. So octets are exactly one packet if this is their number, as in a message of WebSocket.
+///
+/// Returns a fault if the octets are the beginning of no packet.
+pub fn packet_size(octets: &[u8]) -> Result<Option<usize>, StreamFault>
+    ensures { FrontOf octets.now result }
+{
+    front_at(octets, &[])
+}

@@ -47,11 +47,14 @@ const CALLS: &str = "
 # A failed read ends the connection, after the packets before it.
 9 99 r0500 x n ? n ? n s01 g -> 0500 go none done none - .
 9 99 r0502 x n ? w r0102 n ? -> none done none done
-# A failed write ends the connection, and so does a socket that takes nothing.
-9 99 tx s0102 ? r0500 w n s03 g -> - done none - .
-9 99 t1x s0102 ? s03 g -> - done - 01
-9 99 tbx s0102 ? n ? n s03 g -> + go none done none - .
-9 99 t0 s0102 ? n -> - done none
+# After a failed write nothing is written, nor to a socket that takes nothing; what comes is given.
+9 99 tx s0102 ? r0500 w n s03 g e n ? -> - go 0500 - . none done
+9 99 t1x s0102 ? s03 g n ? e w n ? -> - go - 01 none wait none done
+9 99 tbx s0102 ? n ? n s03 g e w n ? -> + go none wait none - . none done
+9 99 t0 s0102 ? n ? -> - go none wait
+9 99 tx r05000600 s01 e n n ? n ? -> - 0500 0600 go none done
+9 99 tbx s01 e n ? s02 g -> + none done - .
+9 99 tbx r05 s01 e n ? -> + none done
 # Octets that are no packets end the connection, after the packets before them.
 9 99 r05000700 n ? n ? n s01 g -> 0500 go none done none - .
 9 99 r07 n ? w r0500 n -> none done none
@@ -78,6 +81,9 @@ const CALLS: &str = "
 # A connection between packets never ends by it, also while octets wait to be written.
 9 99 n c100 c110 c99999 ? r0500 w n -> none wait 0500
 9 99 tbb s01 n c100 c110 c99999 ? n g -> + none wait none 01
+# After a failed write, the other end has as long to end its sending.
+9 99 tx s01 n c100 c109 ? c110 ? -> - none wait done
+9 99 tx s01 r0500 n c100 w r0600 n n c105 c114 ? c115 ? -> - 0500 0600 none wait done
 # What waits at the end of the other end's sending has as long.
 9 99 tbbbb s01 e n c100 c109 ? c110 ? n g -> + none wait done none .
 9 99 tbb s01 e n c100 w n ? g -> + none none done 01
