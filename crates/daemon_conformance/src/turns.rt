@@ -55,6 +55,8 @@ fn options(alloc: Global, turns: u64, log: LogLevel) -> Option<UdpOptions> {
         quiet: false,
         tcp: None,
         unix: None,
+        websocket: None,
+        origins: Vec::new(alloc),
     })
 }
 

@@ -1,5 +1,5 @@
 -- What a face leads to: a UDP endpoint, which is an IPv4 or IPv6 address with a port, or a
--- connection over TCP or a Unix socket. An endpoint with an IPv6 address also has a flow label and
+-- connection over TCP, a Unix socket or WebSocket. An endpoint with an IPv6 address also has a flow label and
 -- a scope. The scope is the number of the link of a link-local address.
 use Rattle.std.specs.Prelude.{ℕ, Bool, false, ◌==◌, Option, None, Some, if◌then◌else◌}
 use Rattle.std.specs.Net.Addr.{IsLoopbackV4, IsLoopbackV6, MatchIp}

@@ -1,5 +1,5 @@
 //! What a face leads to.
-ghost use Rattle.std.specs.Prelude.{◌≡◌, ◌↔◌, ℕ, Bool, IsTrue, None, Some, true};
+ghost use Rattle.std.specs.Prelude.{◌≡◌, ◌↔◌, ℕ, Bool, IsTrue, None, Some, false, true};
 ghost use Rattle.std.specs.declared.net.socket_addr.SocketAddr.{SocketAddr};
 ghost use Rattle.face_table.specs.declared.link.Link.{Link};
 ghost use Rattle.face_table.specs.declared.link.Link.TheVariants.{Connection};
@@ -12,7 +12,7 @@ use std::net::SocketAddr;
 pub enum Link {
     /// The UDP endpoint with this address and port.
     Udp(SocketAddr),
-    /// A connection over TCP or over a Unix socket.
+    /// A connection over TCP, a Unix socket, or WebSocket.
     Connection {
         /// The number of the connection. No two connections of a node have the same number.
         number: u64,
@@ -46,6 +46,19 @@ impl Link {
             number,
             remote: None,
             is_local: true,
+        }
+    }
+
+    /// Returns the connection with this number over WebSocket, whose other end is `remote`. It is
+    /// Far wherever it comes from: the page of any site can make a browser connect to an address of
+    /// its own machine.
+    pub fn over_websocket(number: u64, remote: SocketAddr) -> Link
+        ensures { result ≡ Connection number (Some remote) false }
+    {
+        Link::Connection {
+            number,
+            remote: Some(remote),
+            is_local: false,
         }
     }
 

@@ -63,6 +63,8 @@ const SCRIPTS: &str = "
 0; kind tcp 127.0.0.1:80 1; kind tcp 127.255.255.254:80 1; kind tcp [::1]:80 1; kind unix 1 -> Local Local Local Local
 0; kind tcp 192.0.2.1:80 1; kind tcp [::ffff:127.0.0.1]:80 1; kind tcp 128.0.0.1:80 1 -> Far Far Far
 0; kind tcp 126.255.255.255:80 1; kind tcp [::2]:80 1; kind tcp [::]:80 1; kind udp 8001 -> Far Far Far Far
+# Over WebSocket, a connection is Far wherever it comes from.
+0; kind websocket 127.0.0.1:80 1; kind websocket [::1]:80 1; kind websocket 192.0.2.1:80 1 -> Far Far Far
 ";
 
 /// Appends a word, and a number if there is one, after a space if another word came before.
@@ -91,6 +93,7 @@ fn link_of(kind: &str, rest: &str, further: u64) -> Option<Link> {
         "udp" => Some(Link::Udp(endpoint(u16::try_from(number).ok()?))),
         "tcp" => Some(Link::over_tcp(number, remote.parse().ok()?)),
         "unix" => Some(Link::over_unix(number)),
+        "websocket" => Some(Link::over_websocket(number, remote.parse().ok()?)),
         _ => None,
     }
 }

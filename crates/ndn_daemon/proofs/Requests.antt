@@ -52,6 +52,7 @@ refused_words name rows (fault.Script run.Memory) h = tt
 refused_words name rows (fault.Unbound endpoint) h = absurd h
 refused_words name rows (fault.UnboundTcp endpoint) h = absurd h
 refused_words name rows (fault.UnboundUnix path) h = absurd h
+refused_words name rows (fault.UnboundWebSocket endpoint) h = absurd h
 refused_words name rows fault.Unreceived h = absurd h
 refused_words name rows (fault.Journal why) h = absurd h
 

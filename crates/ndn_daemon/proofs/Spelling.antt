@@ -26,6 +26,7 @@ module _ {A B : Type 0} (Part : A → Type 0) (Whole : B → Type 0) (part : (y 
   wrong_part (fault.Unbound endpoint) h = h
   wrong_part (fault.UnboundTcp endpoint) h = h
   wrong_part (fault.UnboundUnix path) h = h
+  wrong_part (fault.UnboundWebSocket endpoint) h = h
   wrong_part fault.Unreceived h = h
   wrong_part (fault.Journal why) h = h
 
@@ -46,6 +47,7 @@ module _ {A B : Type 0} (Part : A → Type 0) (Whole : B → Type 0) (part : (y 
   refused_part (fault.Unbound endpoint) h = h
   refused_part (fault.UnboundTcp endpoint) h = h
   refused_part (fault.UnboundUnix path) h = h
+  refused_part (fault.UnboundWebSocket endpoint) h = h
   refused_part fault.Unreceived h = h
   refused_part (fault.Journal why) h = h
 
@@ -66,6 +68,7 @@ module _ {A B : Type 0} (Part : A → Type 0) (Whole : B → Type 0) (part : (y 
   wrong_in_memory (fault.Unbound endpoint) h = h
   wrong_in_memory (fault.UnboundTcp endpoint) h = h
   wrong_in_memory (fault.UnboundUnix path) h = h
+  wrong_in_memory (fault.UnboundWebSocket endpoint) h = h
   wrong_in_memory fault.Unreceived h = h
   wrong_in_memory (fault.Journal why) h = h
 
@@ -84,5 +87,6 @@ bad_value_wrong Spell none (fault.Script why) h = h
 bad_value_wrong Spell none (fault.Unbound endpoint) h = h
 bad_value_wrong Spell none (fault.UnboundTcp endpoint) h = h
 bad_value_wrong Spell none (fault.UnboundUnix path) h = h
+bad_value_wrong Spell none (fault.UnboundWebSocket endpoint) h = h
 bad_value_wrong Spell none fault.Unreceived h = h
 bad_value_wrong Spell none (fault.Journal why) h = h

@@ -15,7 +15,7 @@ use Rattle.node_core.specs.declared.script.RunFault.TheVariants.{BadLine, Read, 
 use Rattle.file_faults.specs.Advice.{cause_of, key_text}
 use Rattle.ndn_daemon.specs.Advice.{advice_on_config, advice_on_rules, is_config_memory, is_memory}
 use Rattle.ndn_daemon.specs.declared.fault.Fault.{Fault}
-use Rattle.ndn_daemon.specs.declared.fault.Fault.TheVariants.{CommandLine, BadValue, NotText, Unread, Config, Rules, Keys, LargeKeys, Script, Unbound, UnboundTcp, UnboundUnix, Unreceived, Journal}
+use Rattle.ndn_daemon.specs.declared.fault.Fault.TheVariants.{CommandLine, BadValue, NotText, Unread, Config, Rules, Keys, LargeKeys, Script, Unbound, UnboundTcp, UnboundUnix, UnboundWebSocket, Unreceived, Journal}
 use Rattle.ndn_daemon.specs.declared.fault.JournalFault.{JournalFault}
 use Rattle.ndn_daemon.specs.declared.fault.JournalFault.TheVariants as journal
 
@@ -52,6 +52,7 @@ status_of (Script Memory) = 3
 status_of (Unbound endpoint) = 3
 status_of (UnboundTcp endpoint) = 3
 status_of (UnboundUnix path) = 3
+status_of (UnboundWebSocket endpoint) = 3
 status_of Unreceived = 3
 status_of (Journal journal.Locked) = 3
 status_of (Journal (journal.BadLine line)) = 1
@@ -127,5 +128,7 @@ text_of (UnboundTcp endpoint) = Some (codes "error: " ++ (socket_text endpoint
     ++ codes " cannot be bound for TCP: give an address of this machine and a port that no other program uses\n"))
 text_of (UnboundUnix path) = Some (codes "error: the Unix socket " ++ (string_bytes path
     ++ codes " cannot be bound: give a path in a folder that you may write, at which there is no file, and no program listens\n"))
+text_of (UnboundWebSocket endpoint) = Some (codes "error: " ++ (socket_text endpoint
+    ++ codes " cannot be bound for WebSocket: give an address of this machine and a port that no other program uses\n"))
 text_of Unreceived = Some (codes "error: nothing can be received from the port\n")
 text_of (Journal why) = Some (journal_fault_text why)

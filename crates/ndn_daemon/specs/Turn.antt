@@ -17,7 +17,7 @@ use Rattle.node_core.specs.Script.Ending.{AppendsFront}
 use Rattle.node_core.specs.Script.Writing.{numbered_line, script_text, send_text, verdict_text}
 use Rattle.node_core.specs.Verdict.{verdict_of}
 use Rattle.ndn_daemon.specs.declared.fault.Fault.{Fault}
-use Rattle.ndn_daemon.specs.declared.fault.Fault.TheVariants.{Script, Unbound, UnboundTcp, UnboundUnix, Unreceived, Journal}
+use Rattle.ndn_daemon.specs.declared.fault.Fault.TheVariants.{Script, Unbound, UnboundTcp, UnboundUnix, UnboundWebSocket, Unreceived, Journal}
 use Rattle.ndn_daemon.specs.declared.fault.JournalFault.TheVariants as journal
 use Rattle.ndn_daemon.specs.declared.udp_options.UdpOptions.{UdpOptions}
 use Rattle.ndn_daemon.specs.Options.{MayBePath}
@@ -147,6 +147,7 @@ abbrev pub HasNoTurns : UdpOptions → Fault → Type 0
 HasNoTurns options (Unbound endpoint) = endpoint ≡ options.listen
 HasNoTurns options (UnboundTcp endpoint) = options.tcp ≡ Some endpoint
 HasNoTurns options (UnboundUnix path) = MayBePath (Some (string_bytes path)) options.unix
+HasNoTurns options (UnboundWebSocket endpoint) = options.websocket ≡ Some endpoint
 HasNoTurns options Unreceived = Connects options
 HasNoTurns options (Script (Node why)) = why ≡ NodeMemory
 HasNoTurns options why = ⊥

@@ -1,14 +1,17 @@
 -- The values of the options of a node on a port.
-use Rattle.std.specs.Prelude.{◌≡◌, ◌↔◌, ◌⊎◌, ℕ, ◌*◌, ◌<◌, ◌≤◌, ◌^◌, List, [], Option, None, Some, Bool, true, false, IsSome, IsTrue, All, codes, length, take, ⊤}
+use Rattle.std.specs.Prelude.{◌≡◌, ◌≢◌, ◌↔◌, ◌⊎◌, ℕ, ◌*◌, ◌<◌, ◌≤◌, ◌^◌, List, [], Option, None, Some, Bool, true, false, IsSome, IsTrue, All, String, codes, length, map, string_bytes, take, ⊤}
+use Rattle.std.specs.List.{list_all}
 use Rattle.std.specs.Str.Parse.{IsNumeral, digits_value}
 use Rattle.clap.specs.Walk.{Row, all_of, one_of}
 use Rattle.std.specs.declared.net.socket_addr.SocketAddr.{SocketAddr}
+use Rattle.websocket_requests.specs.Origin.{is_origin}
 use Rattle.node_ports.specs.Udp.{UdpState, bound_to, closes_after}
 use Rattle.ndn_daemon.specs.declared.fault.Fault.{Fault}
 use Rattle.ndn_daemon.specs.declared.fault.Fault.TheVariants.{BadValue}
 use Rattle.ndn_daemon.specs.declared.udp_options.LogLevel.{LogLevel}
 use Rattle.ndn_daemon.specs.declared.udp_options.LogLevel.TheVariants as levels
 use Rattle.ndn_daemon.specs.declared.udp_options.UdpOptions.{UdpOptions}
+use Rattle.ndn_daemon.specs.declared.udp_options.TheConstants.{MAX_ORIGINS}
 use Rattle.ndn_daemon.specs.Endpoint.{AreEndpoints, IsEndpoint, IsLoopback, MayBePeersOf}
 use Rattle.ndn_daemon.specs.Options.{MayBePath, given_or, value_at}
 
@@ -71,9 +74,19 @@ MayBeEndpoint None None = ⊤
 MayBeEndpoint (Some text) (Some endpoint) = IsEndpoint text endpoint
 MayBeEndpoint text endpoint = ⊥
 
--- the node listens for connections: over TCP, on a Unix socket, or both
+-- the node listens for connections: over TCP, on a Unix socket, or for WebSocket
 abbrev pub Connects : UdpOptions → Type 0
-Connects options = IsSome options.tcp ⊎ IsSome options.unix
+Connects options = IsSome options.tcp ⊎ (IsSome options.unix ⊎ IsSome options.websocket)
+
+-- the origins are these texts; there are at most 16, and each has the form of an origin
+abbrev pub AreOrigins : List (List ℕ) → List String → Type 0
+AreOrigins texts origins =
+    (map string_bytes origins ≡ texts) × (length texts ≤ MAX_ORIGINS)
+    × (list_all is_origin texts ≡ true)
+
+-- origins are given exactly if the node listens for WebSocket connections
+abbrev pub MayBePagesOf : Option SocketAddr → List String → Type 0
+MayBePagesOf websocket origins = IsSome websocket ↔ (origins ≢ [])
 
 -- the options of a node on a port; by default, no peer is Local and the idle time is 600 seconds
 pub record IsUdpOptions (rows : List Row) (options : UdpOptions) : Type 0 where
@@ -90,6 +103,9 @@ pub record IsUdpOptions (rows : List Row) (options : UdpOptions) : Type 0 where
   pub quiet : IsFlag (flag_at rows (codes "quiet")) options.quiet
   pub tcp : MayBeEndpoint (value_at rows (codes "tcp")) options.tcp
   pub unix : MayBePath (value_at rows (codes "unix")) options.unix
+  pub websocket : MayBeEndpoint (value_at rows (codes "websocket")) options.websocket
+  pub origins : AreOrigins (values_at rows (codes "origin")) options.origins.items
+  pub pages : MayBePagesOf options.websocket options.origins.items
 
 -- The ports for these options. `told` is the time that the clock of the ports returned most
 -- recently. No peer's face is opened yet, and the faces of other endpoints close after the idle

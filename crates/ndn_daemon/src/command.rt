@@ -104,7 +104,10 @@ seconds. Otherwise the node drops the datagram. While the node runs, it never gi
 to two faces.
 
 With --tcp or --unix, programs can also connect to the node, and send and get packets one after
-another on the connection. Each connection is a face. It closes when the connection ends or fails,
+another on the connection. With --websocket, web pages can do so, each packet in a binary message.
+Their browser says the page's origin: each --origin names one that may connect, such as
+https://example.org, and no others may. The face of such a connection is Far, wherever it comes
+from. Each connection is a face. It closes when the connection ends or fails,
 when its octets are no packets, or when a packet that it has begun is not whole 10 seconds later.
 Over a Unix socket, and over TCP from a loopback address, the face is Local: its program may send
 commands under /localhost, and the face stays open until the connection ends. Over TCP from another
@@ -374,7 +377,22 @@ fn udp_command<'a>(alloc: Global) -> Result<Command<'a>, AllocError> {
             "unix",
             "PATH",
             "Also listens on a Unix socket with this path, for programs of its owner",
-        ))?;
+        ))?
+        .arg(option(
+            alloc,
+            "websocket",
+            "ENDPOINT",
+            "Also listens for WebSocket connections of web pages; give --origin too",
+        ))?
+        .arg(
+            option(
+                alloc,
+                "origin",
+                "ORIGIN",
+                "A web page's origin that may connect over WebSocket; may be given 16 times",
+            )
+            .action(ArgAction::Append),
+        )?;
     with_node(alloc, command)?.arg(peers(alloc))
 }
 

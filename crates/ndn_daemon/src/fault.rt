@@ -59,6 +59,11 @@ pub enum Fault {
         /// The path.
         path: String,
     },
+    /// The node cannot listen for WebSocket connections on this address and port.
+    UnboundWebSocket {
+        /// The address and the port.
+        endpoint: SocketAddr,
+    },
     /// No datagram can be received from the port, or the system cannot wait for several sockets.
     Unreceived,
     /// The journal cannot be used.
@@ -130,6 +135,7 @@ impl Fault {
             | Fault::Unbound { .. }
             | Fault::UnboundTcp { .. }
             | Fault::UnboundUnix { .. }
+            | Fault::UnboundWebSocket { .. }
             | Fault::Unreceived
             | Fault::Journal(
                 JournalFault::Locked | JournalFault::Unwritten | JournalFault::Unshortened,
@@ -217,6 +223,10 @@ impl fmt::Display for Fault {
             Fault::UnboundUnix { path } => writeln!(
                 f,
                 "error: the Unix socket {path} cannot be bound: give a path in a folder that you may write, at which there is no file, and no program listens"
+            ),
+            Fault::UnboundWebSocket { endpoint } => writeln!(
+                f,
+                "error: {endpoint} cannot be bound for WebSocket: give an address of this machine and a port that no other program uses"
             ),
             Fault::Unreceived => f.write_str("error: nothing can be received from the port\n"),
             Fault::Journal(JournalFault::Locked) => {

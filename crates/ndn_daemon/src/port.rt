@@ -99,6 +99,8 @@ fn take_bound<
     let listen = Listen {
         tcp: options.tcp,
         unix: options.unix.as_deref(),
+        websocket: options.websocket,
+        origins: options.origins.as_slice(),
     };
     match NetPorts::open(rt, ports, listen) {
         Ok(ports) => take_as_begun(rt, node, ports, source, options, start),
@@ -111,12 +113,14 @@ fn unbound(alloc: Global, fault: BindFault, options: &UdpOptions) -> Fault
     requires { Connects options.now }
     ensures { HasNoTurns options.now result }
 {
-    match (fault, options.tcp, &options.unix) {
-        (BindFault::Tcp, Some(endpoint), _) => Fault::UnboundTcp { endpoint },
-        (BindFault::Unix, _, Some(path)) => match String::from_str(alloc, path) {
+    match (fault, options.tcp, &options.unix, options.websocket) {
+        (BindFault::Tcp, Some(endpoint), _, _) => Fault::UnboundTcp { endpoint },
+        (BindFault::Unix, _, Some(path), _) => match String::from_str(alloc, path) {
             Ok(path) => Fault::UnboundUnix { path },
             Err(_) => Fault::Script(RunFault::Node(NodeFault::Memory)),
         },
+        (BindFault::WebSocket, _, _, Some(endpoint)) => Fault::UnboundWebSocket { endpoint },
+        (BindFault::Memory, ..) => Fault::Script(RunFault::Node(NodeFault::Memory)),
         _ => Fault::Unreceived,
     }
 }

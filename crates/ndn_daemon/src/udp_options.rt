@@ -2,7 +2,7 @@
 ghost use Rattle.std.specs.Prelude.{◌≡◌, ◌⊎◌, ◌↔◌, ℕ, IsTrue, MatchOption, codes, map, option_map};
 ghost use Rattle.ndn_daemon.specs.Endpoint.{AreEndpoints, IsEndpoint, IsItself, IsLoopback, IsPort, IsUnspecified, MayBePeersOf};
 ghost use Rattle.ndn_daemon.specs.Options.{Reads, ReadsInMemory, rows_in, value_at};
-ghost use Rattle.ndn_daemon.specs.UdpOptions.{Connects, Has, IsBadValue, IsFlag, IsLocal, IsLog, IsNumber, IsSeconds, IsUdpOptions, MayBeEndpoint, all_addresses, flag_at, values_at};
+ghost use Rattle.ndn_daemon.specs.UdpOptions.{AreOrigins, Connects, Has, IsBadValue, IsFlag, IsLocal, IsLog, IsNumber, IsSeconds, IsUdpOptions, MayBeEndpoint, MayBePagesOf, all_addresses, flag_at, values_at};
 
 use crate::fault::Fault;
 use crate::options::{given_or, path_of, value};
@@ -10,6 +10,10 @@ use clap::ArgMatches;
 use node_core::{MAX_FACES, RunFault};
 use std::alloc::Global;
 use std::net::{IpAddr, Ipv4Addr, SocketAddr};
+use websocket_requests::is_origin;
+
+/// How many origins a node can list.
+const MAX_ORIGINS: usize = 16;
 
 /// The events that are logged on standard error.
 #[derive(Clone, Copy, Debug, PartialEq, Eq)]
@@ -52,6 +56,11 @@ pub struct UdpOptions {
     pub tcp: Option<SocketAddr>,
     /// The path of the Unix socket on which the node listens for connections, if it does.
     pub unix: Option<String>,
+    /// The address and the port on which the node listens for WebSocket connections, if it does.
+    pub websocket: Option<SocketAddr>,
+    /// The origins of the web pages that may connect over WebSocket, as `is_origin` decides: from 1
+    /// to 16 if the node listens for such connections, and else none.
+    pub origins: Vec<String>,
 }
 
 impl UdpOptions {
@@ -84,6 +93,9 @@ impl UdpOptions {
         let journal = path_of(alloc, value(found, "journal"))?;
         let tcp = given_endpoint("--tcp", value(found, "tcp"))?;
         let unix = path_of(alloc, value(found, "unix"))?;
+        let websocket = given_endpoint("--websocket", value(found, "websocket"))?;
+        let origins = given_origins(alloc, found)?;
+        check_pages(&websocket, origins.as_slice())?;
         Ok(UdpOptions {
             listen,
             turns,
@@ -96,14 +108,17 @@ impl UdpOptions {
             quiet: flag(found, "quiet"),
             tcp,
             unix,
+            websocket,
+            origins,
         })
     }
 
-    /// Returns whether the node listens for connections: over TCP, on a Unix socket, or both.
+    /// Returns whether the node listens for connections: over TCP, on a Unix socket, or for
+    /// WebSocket.
     pub fn connects(&self) -> bool
         ensures { IsTrue result ↔ Connects self.now }
     {
-        self.tcp.is_some() || self.unix.is_some()
+        self.tcp.is_some() || self.unix.is_some() || self.websocket.is_some()
     }
 
     /// Returns whether datagrams from endpoints that are not peers are accepted. They are accepted
@@ -186,6 +201,55 @@ fn peers_of(alloc: Global, texts: &[&str]) -> Result<Vec<SocketAddr>, Fault>
         };
     }
     Ok(peers)
+}
+
+fn given_origins(alloc: Global, found: &ArgMatches<'_>) -> Result<Vec<String>, Fault>
+    ensures { ReadsInMemory (λ origins. AreOrigins (values_at (rows_in found.now) (codes "origin"))
+        origins.items) result }
+{
+    match found.get_raw("origin") {
+        Some(texts) => origins_of(alloc, texts),
+        None => Ok(Vec::new(alloc)),
+    }
+}
+
+/// Copies the origins, in order.
+fn origins_of(alloc: Global, texts: &[&str]) -> Result<Vec<String>, Fault>
+    ensures { ReadsInMemory
+        (λ origins. AreOrigins (map (λ text. text.now) texts.now) origins.items) result }
+{
+    if texts.len() > MAX_ORIGINS || !texts.iter().all(|text| is_origin(text)) {
+        return Err(Fault::BadValue {
+            place: "--origin",
+            wanted: "at most 16 origins as browsers send them, such as https://example.org or http://localhost:8080, without a path and in lower case",
+        });
+    }
+    let mut origins = Vec::new(alloc);
+    for text in texts {
+        let Ok(()) = origins.push(String::from_str(alloc, text)?) else {
+            return Err(Fault::Script(RunFault::Memory));
+        };
+    }
+    Ok(origins)
+}
+
+/// Checks that origins are given exactly if the node listens for WebSocket connections.
+fn check_pages(websocket: &Option<SocketAddr>, origins: &[String]) -> Result<(), Fault>
+    ensures { Reads (λ _. MayBePagesOf websocket.now origins.now) result }
+{
+    if websocket.is_some() && origins.is_empty() {
+        return Err(Fault::BadValue {
+            place: "--websocket",
+            wanted: "also --origin, with the origin of each web page that may connect",
+        });
+    }
+    if websocket.is_none() && !origins.is_empty() {
+        return Err(Fault::BadValue {
+            place: "--origin",
+            wanted: "also --websocket, with the endpoint to which web pages connect",
+        });
+    }
+    Ok(())
 }
 
 /// Checks that a node that listens on `listen` may have these peers.

@@ -1,4 +1,4 @@
-//! Ports over UDP, TCP and Unix sockets.
+//! Ports over UDP, TCP, Unix sockets and WebSocket.
 ghost use Rattle.std.specs.Prelude.{◌≡◌, ◌<◌, ◌≤◌, ◌∷◌, [], ℕ, List, None, Some, false, length, slice_get, IfOk, IfSome, OnOk, OnErr};
 ghost use Rattle.net_ports.specs.Arrivals.{Admits, IsOf, scope_of};
 ghost use Rattle.net_ports.specs.declared.faces.ConnectedFace.{ConnectedFace};
@@ -6,6 +6,8 @@ ghost use Rattle.node_ports.specs.Ports.{LiesWithin, arrived};
 ghost use Rattle.node_ports.specs.Step.{Got, count_after, failures_in, one_more, step_of};
 
 use crate::faces::{ConnectedFace, check, may_go_on};
+use crate::handshakes;
+use crate::handshakes::{Handshake, add, end_late, next_done};
 use crate::sockets::{BindFault, Listen, Sockets};
 use crate::wire::Wire;
 use face_table::{Link, Met};
@@ -26,11 +28,15 @@ pub const CONNECTION_PLACES: usize = 8;
 /// How many octets may wait to be written to a connection.
 pub const QUEUE_OCTETS: usize = 65_536;
 
-/// A connection closes if a packet that it has begun is not whole after this time, in milliseconds.
+/// A connection closes if a packet that it has begun is not whole after this time, in milliseconds,
+/// counted from the look that finds it so. So long at most it also stays open if the other end has
+/// ended its sending and has not taken all that waits, if a write has failed, or if its opening
+/// handshake for WebSocket is not done, which is counted from its beginning.
 pub const PARTIAL_MILLISECONDS: u64 = 10_000;
 
-/// How many sources are no connections: the UDP socket and the two sockets for new connections.
-const LISTENERS: usize = 3;
+/// How many sources are no connections with faces: the UDP socket, the three sockets for new
+/// connections, and all opening handshakes.
+const LISTENERS: usize = 5;
 
 /// After so many arrivals, these ports ask the system which sockets have something, although not all
 /// that is known to be there was given.
@@ -42,26 +48,32 @@ const LOOK_MILLISECONDS: u64 = 1_000;
 /// How long `next_soon` waits at most, in milliseconds.
 const SOON_MILLISECONDS: u64 = 1;
 
-/// Ports over one UDP socket, and over TCP and Unix sockets on which other programs connect.
+/// Ports over one UDP socket, and over TCP, Unix sockets and WebSocket, on which other programs
+/// connect.
 ///
 /// The faces of UDP endpoints are those of `UdpPorts`. Each connection has a face of its own, which
 /// opens when the connection is accepted, and closes when the other end ends the connection, when
 /// the connection fails, or when its octets are no packets. The face of a connection over a Unix
 /// socket, or over TCP from a loopback address, is Local. The face of another connection is Far,
 /// and may close as that of a UDP endpoint, when it is idle or to make room. A connection for which
-/// no place is left is closed at once.
+/// no place is left is closed at once. A connection over WebSocket gets its face once its opening
+/// handshake is done, and its request had a listed Origin.
 #[derive(Drop)]
 pub struct NetPorts<M: Moments> {
     alloc: Global,
     udp: UdpPorts<M>,
     sockets: Sockets,
     faces: Vec<ConnectedFace>,
+    // The connections over WebSocket that have no face yet, the oldest first.
+    handshakes: Vec<Handshake>,
+    origins: Vec<String>,
     // The number of the next connection.
     number: u64,
     // A connection that waits for another face to close.
     arriving: Option<(Wire, Link)>,
-    // The source that is asked next: 0 for the UDP socket, 1 and 2 for new connections over TCP and
-    // over the Unix socket, and then the connections in order.
+    // The source that is asked next: 0 for the UDP socket, 1, 2 and 3 for new connections over TCP,
+    // over the Unix socket and for WebSocket, 4 for all opening handshakes, and then the
+    // connections in order.
     source: usize,
     // How many arrivals were given since the sockets were last waited for.
     given: u32,
@@ -78,6 +90,9 @@ impl<M: Moments> NetPorts<M> {
         listen: Listen<'_>,
     ) -> Result<NetPorts<M>, BindFault> {
         let sockets = Sockets::open(rt, udp.socket(), listen)?;
+        let Some(origins) = copied(rt.alloc(), listen.origins) else {
+            return Err(BindFault::Memory);
+        };
         if !udp.share_with_connections(CONNECTION_PLACES) {
             return Err(BindFault::Poll);
         }
@@ -86,6 +101,8 @@ impl<M: Moments> NetPorts<M> {
             udp,
             sockets,
             faces: Vec::new(rt.alloc()),
+            handshakes: Vec::new(rt.alloc()),
+            origins,
             number: 0,
             arriving: None,
             source: 0,
@@ -103,8 +120,9 @@ impl<M: Moments> NetPorts<M> {
         }
     }
 
-    /// Returns the number of datagrams that were dropped because their endpoints are not peers, at
-    /// most the greatest u64.
+    /// Returns the number of datagrams that were dropped because their endpoints are not peers: with
+    /// `UdpPorts::ignore_strangers` all of them, and else those for whose endpoints no place was
+    /// left. At most the greatest u64.
     pub fn strangers(&self) -> u64 {
         self.udp.strangers()
     }
@@ -145,6 +163,11 @@ impl<M: Moments> NetPorts<M> {
         match source {
             0 => self.take_datagram(buffer),
             1 | 2 => self.accept(source == 1),
+            3 => {
+                self.greet();
+                None
+            }
+            4 => self.welcome(),
             _ => self.take_packet(source - LISTENERS, buffer),
         }
     }
@@ -186,6 +209,31 @@ impl<M: Moments> NetPorts<M> {
             self.sockets.accept_unix(self.number)?
         };
         self.number = self.number.saturating_add(1);
+        self.admit(wire, link)
+    }
+
+    /// Accepts a connection for WebSocket, if one waits, and begins its opening handshake.
+    fn greet(&mut self)
+        ensures { self.new.udp ≡ self.old.udp }
+    {
+        let Some((socket, link)) = self.sockets.accept_websocket(self.number) else {
+            return;
+        };
+        let number = self.number;
+        self.number = self.number.saturating_add(1);
+        let now = self.udp.now();
+        if let Some(handshake) = Handshake::new(self.alloc, socket, number, link, now) {
+            add(&mut self.handshakes, handshake);
+        }
+    }
+
+    /// Goes on with the opening handshakes. Returns the arrival that opens the face of a connection
+    /// whose handshake is done, or that closes another face before.
+    fn welcome(&mut self) -> Option<Arrival>
+        ensures fits { IfSome result (LiesWithin 0) }
+        ensures works { self.new.udp.failures ≡ self.old.udp.failures }
+    {
+        let (wire, link) = next_done(&mut self.handshakes, self.alloc, &self.origins)?;
         self.admit(wire, link)
     }
 
@@ -296,7 +344,11 @@ impl<M: Moments> NetPorts<M> {
         let limit = if self.is_ready() { 0 } else { limit };
         let waited = self
             .sockets
-            .wait(Duration::from_millis(limit), &mut self.faces);
+            .wait(
+                Duration::from_millis(limit),
+                &mut self.faces,
+                &mut self.handshakes,
+            );
         self.look();
         waited.is_ok()
     }
@@ -317,11 +369,13 @@ impl<M: Moments> NetPorts<M> {
 
     /// Returns whether some source may have something.
     fn is_ready(&self) -> bool {
-        self.sockets.is_ready() || may_go_on(&self.faces)
+        self.sockets.is_ready()
+            || may_go_on(&self.faces)
+            || handshakes::may_go_on(&self.handshakes)
     }
 
-    /// From time to time, counts all listening sockets as ready, and ends the connections that are in the
-    /// middle of a packet for too long.
+    /// From time to time, counts all listening sockets as ready, and ends the connections that are
+    /// in the middle of a packet or of a handshake for too long.
     fn look(&mut self)
         ensures { self.new.udp.failures ≡ self.old.udp.failures }
     {
@@ -332,6 +386,7 @@ impl<M: Moments> NetPorts<M> {
         self.looked = now;
         self.sockets.ask_all();
         check(&mut self.faces, now, PARTIAL_MILLISECONDS);
+        end_late(&mut self.handshakes, now, PARTIAL_MILLISECONDS);
     }
 }
 
@@ -404,6 +459,15 @@ impl<M: Moments> Ports for NetPorts<M> {
     fn failures(&self) -> u64 {
         self.udp.failures()
     }
+}
+
+/// Returns a copy of the texts, or `None` if memory runs out.
+fn copied(alloc: Global, texts: &[String]) -> Option<Vec<String>> {
+    let mut copies = Vec::new(alloc);
+    for text in texts {
+        copies.push(String::from_str(alloc, text).ok()?).ok()?;
+    }
+    Some(copies)
 }
 
 /// Returns the scope of the face of a link.

@@ -1,9 +1,16 @@
 //! The sockets that a node waits for.
+ghost use Rattle.std.specs.Prelude.{◌≡◌, None, true, IfSome};
+ghost use Rattle.face_table.specs.declared.link.Link.{Link};
+ghost use Rattle.net_ports.specs.Links.{IsOverTcp, IsOverWebSocket};
+
 use crate::faces::{ConnectedFace, wake};
+use crate::handshakes;
+use crate::handshakes::Handshake;
 use crate::unix_path;
 use crate::wire::Wire;
 use face_table::Link;
-use mio::net::{TcpListener, UnixListener};
+use mio::net::{TcpListener, TcpStream, UnixListener};
+use mio::event::Source;
 use mio::unix::SourceFd;
 use mio::{Events, Interest, Poll, Token};
 use std::alloc::Global;
@@ -23,6 +30,8 @@ const TCP: usize = 1;
 
 const UNIX: usize = 2;
 
+const WEBSOCKET: usize = 3;
+
 /// The token of the connection with the number 0. The other connections follow by their numbers.
 const FIRST_CONNECTION: usize = 16;
 
@@ -33,6 +42,11 @@ pub struct Listen<'a> {
     pub tcp: Option<SocketAddr>,
     /// The path of the Unix socket, if any.
     pub unix: Option<&'a str>,
+    /// The address and port for WebSocket connections, if any.
+    pub websocket: Option<SocketAddr>,
+    /// The origins of the web pages that may connect over WebSocket, such as
+    /// `https://example.org`.
+    pub origins: &'a [String],
 }
 
 /// A socket could not be opened.
@@ -44,6 +58,10 @@ pub enum BindFault {
     Tcp,
     #[error("the node cannot listen on the Unix socket")]
     Unix,
+    #[error("the node cannot listen on the endpoint for WebSocket")]
+    WebSocket,
+    #[error("out of memory")]
+    Memory,
 }
 
 /// The sockets that a node waits for, and which of them may have something. A socket that has
@@ -54,10 +72,12 @@ pub struct Sockets {
     events: Events,
     tcp: Option<TcpListener>,
     unix: Option<UnixListener>,
+    websocket: Option<TcpListener>,
     /// Whether the UDP socket may have a datagram.
     pub is_udp_ready: bool,
     is_tcp_ready: bool,
     is_unix_ready: bool,
+    is_websocket_ready: bool,
 }
 
 impl Sockets {
@@ -81,6 +101,11 @@ impl Sockets {
         {
             return Err(BindFault::Unix);
         }
+        if let Some(endpoint) = listen.websocket
+            && sockets.listen_on_websocket(rt, endpoint).is_err()
+        {
+            return Err(BindFault::WebSocket);
+        }
         Ok(sockets)
     }
 
@@ -96,9 +121,11 @@ impl Sockets {
             events: Events::with_capacity(alloc, EVENTS)?,
             tcp: None,
             unix: None,
+            websocket: None,
             is_udp_ready: true,
             is_tcp_ready: false,
             is_unix_ready: false,
+            is_websocket_ready: false,
         })
     }
 
@@ -109,6 +136,16 @@ impl Sockets {
             .register(&mut listener, Token(TCP), Interest::READABLE)?;
         self.tcp = Some(listener);
         self.is_tcp_ready = true;
+        Ok(())
+    }
+
+    fn listen_on_websocket<R: Net>(&mut self, rt: &R, endpoint: SocketAddr) -> io::Result<()> {
+        let mut listener = TcpListener::bind(rt, endpoint)?;
+        self.poll
+            .registry()
+            .register(&mut listener, Token(WEBSOCKET), Interest::READABLE)?;
+        self.websocket = Some(listener);
+        self.is_websocket_ready = true;
         Ok(())
     }
 
@@ -124,7 +161,7 @@ impl Sockets {
 
     /// Returns whether some of these sockets may have something. Connections are not asked.
     pub fn is_ready(&self) -> bool {
-        self.is_udp_ready || self.is_tcp_ready || self.is_unix_ready
+        self.is_udp_ready || self.is_tcp_ready || self.is_unix_ready || self.is_websocket_ready
     }
 
     /// Counts the sockets that are open as ready, so that each is asked once more.
@@ -132,18 +169,29 @@ impl Sockets {
         self.is_udp_ready = true;
         self.is_tcp_ready = self.tcp.is_some();
         self.is_unix_ready = self.unix.is_some();
+        self.is_websocket_ready = self.websocket.is_some();
     }
 
     /// Waits for at most `limit` until some socket has something, and counts the sockets and the
     /// connections that have something as ready.
-    pub fn wait(&mut self, limit: Duration, faces: &mut [ConnectedFace]) -> io::Result<()> {
+    pub fn wait(
+        &mut self,
+        limit: Duration,
+        faces: &mut [ConnectedFace],
+        handshakes: &mut [Handshake],
+    ) -> io::Result<()> {
         self.poll.poll(&mut self.events, Some(limit))?;
         for event in &self.events {
             match event.token().0 {
                 UDP => self.is_udp_ready = true,
                 TCP => self.is_tcp_ready = true,
                 UNIX => self.is_unix_ready = true,
-                token => wake(faces, token.saturating_sub(FIRST_CONNECTION) as u64),
+                WEBSOCKET => self.is_websocket_ready = true,
+                token => {
+                    let number = token.saturating_sub(FIRST_CONNECTION) as u64;
+                    wake(faces, number);
+                    handshakes::wake(handshakes, number);
+                }
             }
         }
         Ok(())
@@ -151,7 +199,9 @@ impl Sockets {
 
     /// Accepts a connection over TCP, if one waits, as the connection with this number. Returns
     /// `None` if no connection waits, or if the system cannot open one now.
-    pub fn accept_tcp(&mut self, number: u64) -> Option<(Wire, Link)> {
+    pub fn accept_tcp(&mut self, number: u64) -> Option<(Wire, Link)>
+        ensures { IfSome result (λ found. IsOverTcp number found.1) }
+    {
         if !self.is_tcp_ready {
             return None;
         }
@@ -169,7 +219,9 @@ impl Sockets {
     }
 
     /// Accepts a connection over the Unix socket, as `accept_tcp` does over TCP.
-    pub fn accept_unix(&mut self, number: u64) -> Option<(Wire, Link)> {
+    pub fn accept_unix(&mut self, number: u64) -> Option<(Wire, Link)>
+        ensures { IfSome result (λ found. found.1 ≡ Link.Connection number None true) }
+    {
         if !self.is_unix_ready {
             return None;
         }
@@ -182,14 +234,39 @@ impl Sockets {
         }
     }
 
-    /// Waits for the connection with this number from now on.
+    /// Accepts a connection for WebSocket, as `accept_tcp` does, and waits for it from now on.
+    pub fn accept_websocket(&mut self, number: u64) -> Option<(TcpStream, Link)>
+        ensures { IfSome result (λ found. IsOverWebSocket number found.1) }
+    {
+        if !self.is_websocket_ready {
+            return None;
+        }
+        match self.websocket.as_ref()?.accept() {
+            Ok((mut stream, remote)) => {
+                let _set = stream.set_nodelay(true);
+                self.register(&mut stream, number).ok()?;
+                Some((stream, Link::over_websocket(number, remote)))
+            }
+            Err(_) => {
+                self.is_websocket_ready = false;
+                None
+            }
+        }
+    }
+
+    /// Waits for the connection with this number from now on. One over WebSocket is waited for
+    /// since it was accepted.
     pub fn watch(&self, wire: &mut Wire, number: u64) -> io::Result<()> {
+        match wire {
+            Wire::Tcp(stream) => self.register(stream, number),
+            Wire::Unix(stream) => self.register(stream, number),
+            Wire::WebSocket(_) => Ok(()),
+        }
+    }
+
+    fn register<S: Source>(&self, socket: &mut S, number: u64) -> io::Result<()> {
         let token = Token(FIRST_CONNECTION.saturating_add(number as usize));
         let both = Interest::READABLE | Interest::WRITABLE;
-        let registry = self.poll.registry();
-        match wire {
-            Wire::Tcp(stream) => registry.register(stream, token, both),
-            Wire::Unix(stream) => registry.register(stream, token, both),
-        }
+        self.poll.registry().register(socket, token, both)
     }
 }

@@ -2,6 +2,7 @@
 ghost use Rattle.std.specs.Prelude.{◌≡◌};
 ghost use Rattle.std.specs.Io.{ReadsAtMost, WritesAtMost};
 
+use crate::packet_socket::PacketSocket;
 use mio::net::{TcpStream, UnixStream};
 use std::io;
 use std::io::{Read, Write};
@@ -11,6 +12,8 @@ use std::io::{Read, Write};
 pub enum Wire {
     Tcp(TcpStream),
     Unix(UnixStream),
+    /// Its opening handshake is done.
+    WebSocket(PacketSocket),
 }
 
 impl Read for Wire {
@@ -18,6 +21,7 @@ impl Read for Wire {
         match self {
             Wire::Tcp(stream) => stream.read(buf),
             Wire::Unix(stream) => stream.read(buf),
+            Wire::WebSocket(socket) => socket.read(buf),
         }
     }
 }
@@ -27,6 +31,7 @@ impl Write for Wire {
         match self {
             Wire::Tcp(stream) => stream.write(buf),
             Wire::Unix(stream) => stream.write(buf),
+            Wire::WebSocket(socket) => socket.write(buf),
         }
     }
 
