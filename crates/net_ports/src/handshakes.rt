@@ -1,4 +1,7 @@
 //! Connections over WebSocket whose opening handshake is not done, and which have no face yet.
+ghost use Rattle.std.specs.Prelude.{◌≤◌, ℕ, List, map, string_bytes, take, vec_len};
+ghost use Rattle.net_ports.specs.Handshakes.{AnswersAllowed};
+
 use crate::head_first::HeadFirst;
 use crate::packet_socket::{PacketSocket, limits};
 use crate::wire::Wire;
@@ -77,7 +80,7 @@ impl Handshake {
         };
     }
 
-    /// Reads the head of the request.
+    /// Reads the head of the request, and decides on what has come.
     fn read(
         &mut self,
         alloc: Global,
@@ -85,7 +88,9 @@ impl Handshake {
         mut head: Vec<u8>,
         mut len: usize,
         origins: &[String],
-    ) -> Stage {
+    ) -> Stage
+        ensures { (octets : List ℕ) × AnswersAllowed (map string_bytes origins.now) octets result }
+    {
         for _ in 0..READS {
             match read_behind(&mut socket, &mut head, len) {
                 Reading::Octets(count) => len = count,
@@ -95,25 +100,8 @@ impl Handshake {
                 }
                 Reading::Failure => return Stage::Over,
             }
-            match check(head.get(..len).unwrap_or_default(), origins) {
-                Ok(Progress::Begun) => {}
-                Ok(Progress::Allowed) => {
-                    head.truncate(len);
-                    let stream = HeadFirst {
-                        socket,
-                        head,
-                        given: 0,
-                    };
-                    return Stage::Answer(server::start(alloc, stream, NoCallback, Some(limits())));
-                }
-                Err(fault) => {
-                    // If the answer cannot be written at once, the connection ends without it.
-                    let _written = socket.write(refusal_of(fault));
-                    return Stage::Over;
-                }
-            }
         }
-        Stage::Request(socket, head, len)
+        decide(alloc, socket, head, len, origins)
     }
 
     /// Goes on with the answer.
@@ -125,6 +113,39 @@ impl Handshake {
                 Stage::Answer(rest)
             }
             Err(HandshakeError::Failure(_)) => Stage::Over,
+        }
+    }
+}
+
+/// Decides on the first `len` octets of the head, which have come. A request is answered only if it
+/// is allowed.
+fn decide(
+    alloc: Global,
+    mut socket: TcpStream,
+    mut head: Vec<u8>,
+    len: usize,
+    origins: &[String],
+) -> Stage
+    ensures { AnswersAllowed (map string_bytes origins.now) (take len head.items) result }
+{
+    let Some(octets) = head.get(..len) else {
+        return Stage::Over;
+    };
+    match check(octets, origins) {
+        Ok(Progress::Begun) => Stage::Request(socket, head, len),
+        Ok(Progress::Allowed) => {
+            head.truncate(len);
+            let stream = HeadFirst {
+                socket,
+                head,
+                given: 0,
+            };
+            Stage::Answer(server::start(alloc, stream, NoCallback, Some(limits())))
+        }
+        Err(fault) => {
+            // If the answer cannot be written at once, the connection ends without it.
+            let _written = socket.write(refusal_of(fault));
+            Stage::Over
         }
     }
 }
@@ -143,6 +164,9 @@ fn read_behind(socket: &mut TcpStream, head: &mut [u8], len: usize) -> Reading {
     let Some((_, room)) = head.split_at_mut_checked(len) else {
         return Reading::Failure;
     };
+    if room.is_empty() {
+        return Reading::Octets(len);
+    }
     match socket.read(room) {
         Ok(0) => Reading::Failure,
         Ok(count) => Reading::Octets(len.saturating_add(count)),
@@ -166,7 +190,9 @@ fn refusal_of(fault: RequestFault) -> &'static [u8] {
 }
 
 /// Stores a handshake. If there are too many, the oldest ends.
-pub fn add(handshakes: &mut Vec<Handshake>, handshake: Handshake) {
+pub fn add(handshakes: &mut Vec<Handshake>, handshake: Handshake)
+    ensures { vec_len handshakes.old ≤ HANDSHAKES → vec_len handshakes.new ≤ HANDSHAKES }
+{
     if handshakes.len() >= HANDSHAKES {
         let _oldest = handshakes.remove(0);
     }
@@ -187,9 +213,9 @@ pub fn next_done(
     let place = handshakes
         .iter()
         .position(|handshake| matches!(handshake.stage, Stage::Done(_)))?;
-    let done = handshakes.remove(place);
-    match done.stage {
-        Stage::Done(socket) => Some((Wire::WebSocket(socket), done.link)),
+    let Handshake { link, stage, .. } = handshakes.remove(place);
+    match stage {
+        Stage::Done(socket) => Some((Wire::WebSocket(socket), link)),
         _ => None,
     }
 }
