@@ -1,6 +1,7 @@
 pub mod Spelling
 pub mod Endpoints
 pub mod Peers
+pub mod Origins
 pub mod Requests
 pub mod Telling
 pub mod Watching

@@ -1,5 +1,7 @@
 //! The options of a node that listens on a port.
-ghost use Rattle.std.specs.Prelude.{◌≡◌, ◌⊎◌, ◌↔◌, ℕ, IsTrue, MatchOption, codes, map, option_map};
+ghost use Rattle.std.specs.Prelude.{◌≡◌, ◌⊎◌, ◌↔◌, ℕ, IfOk, IsTrue, MatchOption, codes, map, option_map, string_bytes};
+ghost use Rattle.std.specs.List.{list_all};
+ghost use Rattle.websocket_requests.specs.Origin.{is_origin};
 ghost use Rattle.ndn_daemon.specs.Endpoint.{AreEndpoints, IsEndpoint, IsItself, IsLoopback, IsPort, IsUnspecified, MayBePeersOf};
 ghost use Rattle.ndn_daemon.specs.Options.{Reads, ReadsInMemory, rows_in, value_at};
 ghost use Rattle.ndn_daemon.specs.UdpOptions.{AreOrigins, Connects, Has, IsBadValue, IsFlag, IsLocal, IsLog, IsNumber, IsSeconds, IsUdpOptions, MayBeEndpoint, MayBePagesOf, all_addresses, flag_at, values_at};
@@ -8,7 +10,7 @@ use crate::fault::Fault;
 use crate::options::{given_or, path_of, value};
 use clap::ArgMatches;
 use node_core::{MAX_FACES, RunFault};
-use std::alloc::Global;
+use std::alloc::{AllocError, Global};
 use std::net::{IpAddr, Ipv4Addr, SocketAddr};
 use websocket_requests::is_origin;
 
@@ -213,24 +215,37 @@ fn given_origins(alloc: Global, found: &ArgMatches<'_>) -> Result<Vec<String>, F
     }
 }
 
-/// Copies the origins, in order.
+/// Reads the origins, in order.
 fn origins_of(alloc: Global, texts: &[&str]) -> Result<Vec<String>, Fault>
     ensures { ReadsInMemory
         (λ origins. AreOrigins (map (λ text. text.now) texts.now) origins.items) result }
 {
-    if texts.len() > MAX_ORIGINS || !texts.iter().all(|text| is_origin(text)) {
+    if texts.len() > MAX_ORIGINS || !are_origins(texts) {
         return Err(Fault::BadValue {
             place: "--origin",
             wanted: "at most 16 origins as browsers send them, such as https://example.org or http://localhost:8080, without a path and in lower case",
         });
     }
-    let mut origins = Vec::new(alloc);
+    Ok(copied(alloc, texts)?)
+}
+
+/// Returns whether each text has the form of an origin.
+fn are_origins(texts: &[&str]) -> bool
+    ensures { result ≡ list_all (λ text. is_origin text.now) texts.now }
+{
+    texts.iter().all(|text| is_origin(text))
+}
+
+/// Copies texts, in order.
+fn copied(alloc: Global, texts: &[&str]) -> Result<Vec<String>, AllocError>
+    ensures { IfOk result
+        (λ copies. map string_bytes copies.items ≡ map (λ text. text.now) texts.now) }
+{
+    let mut copies = Vec::new(alloc);
     for text in texts {
-        let Ok(()) = origins.push(String::from_str(alloc, text)?) else {
-            return Err(Fault::Script(RunFault::Memory));
-        };
+        copies.push(String::from_str(alloc, text)?)?;
     }
-    Ok(origins)
+    Ok(copies)
 }
 
 /// Checks that origins are given exactly if the node listens for WebSocket connections.

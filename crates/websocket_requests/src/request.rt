@@ -1,5 +1,5 @@
 //! The head of a request.
-ghost use Rattle.std.specs.Prelude.{◌≡◌, ◌↔◌, ◌<◌, length, map, IsTrue, string_bytes, Ok, true, false};
+ghost use Rattle.std.specs.Prelude.{◌≡◌, ◌↔◌, ◌<◌, ◌++◌, ℕ, IfErr, List, length, map, IsTrue, string_bytes, Ok, true, false};
 ghost use Rattle.std.specs.List.{list_any};
 ghost use Rattle.std.specs.Str.{bytes_eq};
 ghost use Rattle.websocket_requests.specs.Field.{is_listed};
@@ -31,8 +31,12 @@ pub enum Progress {
 /// without CR and LF, and each field has a name (RFC 9112 section 5, "Field Syntax").
 pub fn check(octets: &[u8], origins: &[String]) -> Result<Progress, RequestFault>
     ensures exact { result ≡ checked (map string_bytes origins.now) octets.now }
-    ensures allowed { (result ≡ Ok Progress.Allowed) ↔ IsAllowed (map string_bytes origins.now) octets.now }
+    ensures allowed { (result ≡ Ok Progress.Allowed)
+        ↔ IsAllowed (map string_bytes origins.now) octets.now }
     ensures begun { result ≡ Ok Progress.Begun → length octets.now < MAX_HEAD }
+    // Whatever octets come next, they make no request that is allowed.
+    ensures refuses { IfErr result (λ fault. (more : List ℕ)
+        → ¬ (IsAllowed (map string_bytes origins.now) (octets.now ++ more))) }
 {
     limited(octets.len(), read_head(octets, origins))
 }

@@ -1,5 +1,6 @@
 use Rattle.std.proofs.Common.{◌≡◌, length, map, string_bytes, sym, ap, ◌∙◌}
 use Rattle.websocket_requests.specs.Reading.{checked, limited}
+use Rattle.websocket_requests.proofs.Finals.{refuses}
 use Rattle.websocket_requests.proofs.Heads.{allowed_checked, checked_allowed, limit_begun}
 use Rattle.websocket_requests.proofs.request.check.Goals as goal
 
@@ -17,3 +18,6 @@ returns-clause-allowed c =
 
 pub returns-clause-begun : goal.returns-clause-begun
 returns-clause-begun c = λ h. limit_begun (length c.args.octets.now) c.read_head.result (sym c.limited.ensures ∙ h)
+
+pub returns-clause-refuses : goal.returns-clause-refuses
+returns-clause-refuses c = refuses (map string_bytes c.args.origins.now) c.args.octets.now c.limited.result (read c)

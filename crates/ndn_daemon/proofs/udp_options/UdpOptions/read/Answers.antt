@@ -3,6 +3,7 @@ use Rattle.std.proofs.lemmas.Result.{err_from_is_err_and}
 use Rattle.ndn_daemon.specs.Options.{given_or, rows_in, value_at}
 use Rattle.ndn_daemon.specs.UdpOptions.{values_at}
 use Rattle.ndn_daemon.proofs.Spelling.{refused_part, wrong_in_memory}
+use Rattle.ndn_daemon.proofs.Origins.{same_pages}
 use Rattle.ndn_daemon.proofs.Peers.{same_local, same_suit}
 use Rattle.ndn_daemon.proofs.udp_options.UdpOptions.read.Goals as goal
 
@@ -54,3 +55,25 @@ pub returns-in_err-unix : goal.returns-in_err-unix
 returns-in_err-unix c =
     let p = err_from_is_err_and c.from_residual-in_err-unix.result c.from_residual-in_err-unix.ensures.1 in
     rw (p.1, p.2) (refused_part _ _ (λ options h. (options.unix, h.unix)) c.in_err-unix.field-0.0 (rw c.value-6.ensures at c.in_err-unix.ensures))
+
+pub returns-in_err-websocket : goal.returns-in_err-websocket
+returns-in_err-websocket c =
+    let p = err_from_is_err_and c.from_residual-in_err-websocket.result c.from_residual-in_err-websocket.ensures.1 in
+    rw (p.1, p.2) (wrong_in_memory _ _ (λ options h. (options.websocket, h.websocket)) c.in_err-websocket.field-0.0 (rw c.value-7.ensures at c.in_err-websocket.ensures))
+
+pub returns-in_err-origins : goal.returns-in_err-origins
+returns-in_err-origins c =
+    let p = err_from_is_err_and c.from_residual-in_err-origins.result c.from_residual-in_err-origins.ensures.1 in
+    rw (p.1, p.2) (refused_part _ _ (λ options h. (options.origins, h.origins)) c.in_err-origins.field-0.0 c.in_err-origins.ensures)
+
+pub returns-in_err-check_pages : goal.returns-in_err-check_pages
+returns-in_err-check_pages c =
+    let rows = rows_in c.args.found.now in
+    let p = err_from_is_err_and c.from_residual-in_err-check_pages.result c.from_residual-in_err-check_pages.ensures.1 in
+    rw (p.1, p.2) (wrong_in_memory _ _
+    (λ options h. (
+      tt,
+      same_pages (value_at rows (codes "websocket")) (values_at rows (codes "origin")) options.websocket c.in_ok-websocket.websocket options.origins.items c.in_ok-origins.origins.items
+          c.as_slice-3.result.now h.websocket (rw c.value-7.ensures at c.in_ok-websocket.ensures) h.origins c.in_ok-origins.ensures c.as_slice-3.ensures.value h.pages,
+    ))
+    c.in_err-check_pages.field-0.0 c.in_err-check_pages.ensures)
