@@ -6,7 +6,7 @@ use Rattle.std.specs.declared.net.socket_addr.SocketAddr.{SocketAddr}
 use Rattle.std.proofs.lemmas.List.{map-append, take_more}
 use Rattle.ndn_daemon.specs.UdpOptions.{AreOrigins, MayBeEndpoint, MayBePagesOf}
 
-pub no_origins : AreOrigins [] []
+pub no_origins : {Z : Type 0} → AreOrigins {Z = Z} [] []
 no_origins = (refl, omega arith, refl)
 
 pub all-map : {X Y : Type 0} (p : Y → Bool) (f : X → Y) (xs : List X) → list_all (λ x. p (f x)) xs ≡ list_all p (map f xs)
@@ -20,7 +20,7 @@ copied_more f g copies copy texts i text inside at same h =
     map-append f copies (copy ∷ []) ∙ ap (λ (o : List (List ℕ)). o ++ f copy ∷ []) h ∙ ap (λ (o : List ℕ). map g (take i texts) ++ o ∷ []) same
     ∙ sym (map-append g (take i texts) (text ∷ [])) ∙ sym (ap (λ t. map g (take i texts ++ t ∷ [])) at) ∙ sym (ap (map g) (take_more texts i text inside))
 
-none_mapped : (a : List String) → map string_bytes a ≡ [] → a ≡ []
+none_mapped : {Z : Type 0} → (a : List (String Z)) → map string_bytes a ≡ [] → a ≡ []
 none_mapped [] h = refl
 none_mapped (x ∷ xs) h = absurd cc
 
@@ -32,11 +32,11 @@ same_some (Some text) None b h k s = absurd h
 same_some (Some text) (Some a) None h k s = absurd k
 same_some (Some text) (Some a) (Some b) h k s = refl
 
-same_none : (texts : List (List ℕ)) (a b : List String) → AreOrigins texts a → AreOrigins texts b → a ≢ [] → b ≢ []
+same_none : {Z : Type 0} → (texts : List (List ℕ)) (a b : List (String Z)) → AreOrigins texts a → AreOrigins texts b → a ≢ [] → b ≢ []
 same_none texts a b h k some = λ none. some (none_mapped a (h.0 ∙ sym k.0 ∙ ap (map string_bytes) none))
 
 -- what may be the pages of a node with one reading of the command line may be those with another
-pub same_pages : (text : Option (List ℕ)) (texts : List (List ℕ)) (a b : Option SocketAddr) (x y held : List String) → MayBeEndpoint text a → MayBeEndpoint text b → AreOrigins texts x → AreOrigins texts y
+pub same_pages : {Z : Type 0} → (text : Option (List ℕ)) (texts : List (List ℕ)) (a b : Option SocketAddr) (x y held : List (String Z)) → MayBeEndpoint text a → MayBeEndpoint text b → AreOrigins texts x → AreOrigins texts y
     → held ≡ y → MayBePagesOf a x → MayBePagesOf b held
 same_pages text texts a b x y held ea eb ox oy is h = (
   (λ some. λ none. same_none texts x y ox oy (h.0 (same_some text b a eb ea some)) (sym is ∙ none)),

@@ -79,13 +79,13 @@ abbrev pub Connects : UdpOptions → Type 0
 Connects options = IsSome options.tcp ⊎ (IsSome options.unix ⊎ IsSome options.websocket)
 
 -- the origins are these texts; there are at most 16, and each has the form of an origin
-abbrev pub AreOrigins : List (List ℕ) → List String → Type 0
+abbrev pub AreOrigins : {Z : Type 0} → List (List ℕ) → List (String Z) → Type 0
 AreOrigins texts origins =
     (map string_bytes origins ≡ texts) × (length texts ≤ MAX_ORIGINS)
     × (list_all is_origin texts ≡ true)
 
 -- origins are given exactly if the node listens for WebSocket connections
-abbrev pub MayBePagesOf : Option SocketAddr → List String → Type 0
+abbrev pub MayBePagesOf : {Z : Type 0} → Option SocketAddr → List (String Z) → Type 0
 MayBePagesOf websocket origins = IsSome websocket ↔ (origins ≢ [])
 
 -- the options of a node on a port; by default, no peer is Local and the idle time is 600 seconds

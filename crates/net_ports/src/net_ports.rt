@@ -214,7 +214,7 @@ impl<M: Moments> NetPorts<M> {
 
     /// Accepts a connection for WebSocket, if one waits, and begins its opening handshake.
     fn greet(&mut self)
-        ensures { self.new.udp ≡ self.old.udp }
+        ensures { self.new.udp.failures ≡ self.old.udp.failures }
     {
         let Some((socket, link)) = self.sockets.accept_websocket(self.number) else {
             return;

@@ -1,4 +1,5 @@
 //! Packets over WebSocket: each is one binary message, as in NFD's channel for WebSocket.
+ghost use Rattle.std.specs.Prelude.{◌≤◌, IfOk, length};
 
 use crate::head_first::HeadFirst;
 use ndn_streams::{MAX_FRAME, packet_size};
@@ -51,7 +52,9 @@ impl PacketSocket {
     }
 
     /// Gives the packet that a message has.
-    fn give(&mut self, octets: &Bytes, buf: &mut [u8]) -> io::Result<usize> {
+    fn give(&mut self, octets: &Bytes, buf: &mut [u8]) -> io::Result<usize>
+        ensures { IfOk result (λ count. count ≤ length buf.new) }
+    {
         let octets = octets.as_slice();
         if packet_size(octets) != Ok(Some(octets.len())) || octets.len() > buf.len() {
             return Err(self.refuse(CloseCode::Invalid));
