@@ -1,5 +1,5 @@
 -- Nodes that a file configures: the options that a configuration stands for.
-use Rattle.std.specs.Prelude.{◌≡◌, ◌⊎◌, ℕ, ◌<◌, ◌≤◌, List, Err, not, codes, length, map, count_by, string_bytes}
+use Rattle.std.specs.Prelude.{◌≡◌, ◌⊎◌, ℕ, ◌<◌, ◌≤◌, List, [], Err, None, not, codes, length, map, count_by, string_bytes}
 use Rattle.std.specs.Option.{option_map}
 use Rattle.node_config.specs.declared.config.LogLevel.{LogLevel as ConfigLevel}
 use Rattle.node_config.specs.declared.config.LogLevel.TheVariants as config_levels
@@ -53,3 +53,5 @@ pub record AreConfigured (folder : List ℕ) (config : PlainConfig) (node : Opti
   pub quiet : options.quiet ≡ not config.log.answers
   pub tcp : options.tcp ≡ config.listen.tcp
   pub unix : option_map string_bytes options.unix ≡ option_map (placed folder) config.listen.unix
+  pub websocket : options.websocket ≡ None
+  pub origins : options.origins.items ≡ []

@@ -64,7 +64,7 @@ fn level_of(level: node_config::LogLevel) -> LogLevel
 }
 
 /// Returns the options of the node that the configuration describes. Paths that do not begin with
-/// `/` are taken from the folder.
+/// `/` are taken from the folder. Such a node does not listen for WebSocket connections.
 pub fn options_of(
     alloc: Global,
     folder: &str,
@@ -108,6 +108,8 @@ pub fn options_of(
         quiet: !log.answers,
         tcp,
         unix: placed_in(alloc, folder, unix)?,
+        websocket: None,
+        origins: Vec::new(alloc),
     };
     Ok((node, options))
 }
