@@ -1,17 +1,20 @@
 -- Origins on a command line.
-use Rattle.std.proofs.Common.{◌≡◌, ◌≢◌, ℕ, ◌+◌, ◌<◌, Bool, true, List, [], ◌∷◌, ◌++◌, take, length, get_or, map, string_bytes, String, Option, None, Some, ◌&&◌, refl, sym, ap, ◌∙◌, arith}
+use Rattle.std.proofs.Common.{◌≡◌, ◌≢◌, ℕ, ◌+◌, ◌<◌, Bool, false, true, List, [], ◌∷◌, ◌++◌, take, length, get_or, map, string_bytes, String, Option, None, Some, ◌&&◌, refl, sym, ap, ◌∙◌, arith}
 use Rattle.std.specs.Prelude.{IsSome}
 use Rattle.std.specs.List.{list_all}
 use Rattle.std.specs.declared.net.socket_addr.SocketAddr.{SocketAddr}
 use Rattle.std.proofs.lemmas.List.{map-append, take_more}
 use Rattle.ndn_daemon.specs.UdpOptions.{AreOrigins, MayBeEndpoint, MayBePagesOf}
 
-pub no_origins : {Z : Type 0} → AreOrigins {Z = Z} [] []
-no_origins = (refl, omega arith, refl)
+pub no_origins : (Z : Type 0) → AreOrigins {Z = Z} [] []
+no_origins Z = (refl, omega arith, refl)
 
 pub all-map : {X Y : Type 0} (p : Y → Bool) (f : X → Y) (xs : List X) → list_all (λ x. p (f x)) xs ≡ list_all p (map f xs)
 all-map p f [] = refl
 all-map p f (x ∷ xs) = ap (λ (b : Bool). p (f x) && b) (all-map p f xs)
+
+pub not_both : false ≡ true → ⊥
+not_both h = absurd cc
 
 -- one more text was copied
 pub copied_more : {S X : Type 0} (f : S → List ℕ) (g : X → List ℕ) (copies : List S) (copy : S) (texts : List X) (i : ℕ) (text : X) → i < length texts → get_or texts i text ≡ text → f copy ≡ g text

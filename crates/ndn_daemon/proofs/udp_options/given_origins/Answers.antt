@@ -12,4 +12,4 @@ returns-in-Some c =
 pub returns-in-None : goal.returns-in-None
 returns-in-None c =
     let e = c.in-None.ensures ∙ raw_values-rows (found_of c.args.found.now) (codes "origin") in
-    rw (← e, c.new.ensures.items) no_origins
+    rw (← e, c.new.ensures.items) (no_origins _)

@@ -36,6 +36,11 @@ returns-in_err-local c =
     ))
     c.in_err-local.field-0.0 (rw (c.given_or.ensures, c.value.ensures) at c.in_err-local.ensures))
 
+pub returns-in_err-idle : goal.returns-in_err-idle
+returns-in_err-idle c =
+    let p = err_from_is_err_and c.from_residual-in_err-idle.result c.from_residual-in_err-idle.ensures.1 in
+    rw (p.1, p.2) (wrong_in_memory _ _ (λ options h. (options.idle, h.idle)) c.in_err-idle.field-0.0 (rw (c.given_or-2.ensures, c.value-2.ensures) at c.in_err-idle.ensures))
+
 pub returns-in_err-log : goal.returns-in_err-log
 returns-in_err-log c =
     let p = err_from_is_err_and c.from_residual-in_err-log.result c.from_residual-in_err-log.ensures.1 in
