@@ -1,2 +1,4 @@
 pub mod Heard
 pub mod Silent
+pub mod Spared
+pub mod Meeting

@@ -33,7 +33,7 @@ IsLongestOf-start clients = record {
   first = λ k h. absurd (omega (arith, h));
 }
 
-split_last : (k n : ℕ) → k < n + 1 → (k < n) ⊎ (k ≡ n)
+pub split_last : (k n : ℕ) → k < n + 1 → (k < n) ⊎ (k ≡ n)
 split_last k n h = elim (cases_lt k n) [
   | inl l ↦ inl l
   | inr g ↦ inr (omega (arith, h, g))
@@ -61,7 +61,7 @@ IsLongestOf-kept clients count place h kept = record {
 
 -- if the index k is below the number of clients, the time of the last datagram of the client at
 -- index k does not depend on the default client `d`
-heard_any : (clients : List Client) (k : ℕ) (d : Client) → k < length clients → (slice_index_or clients k d).heard ≡ heard_at clients k
+pub heard_any : (clients : List Client) (k : ℕ) (d : Client) → k < length clients → (slice_index_or clients k d).heard ≡ heard_at clients k
 heard_any clients k d h = ap (λ (c : Client). c.heard) (get_or_default clients k d nobody h)
 
 pub All-remove : (P : Client → Type 0) (clients : List Client) (place : ℕ) → All P clients → All P (remove clients place)

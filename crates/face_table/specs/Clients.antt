@@ -1,7 +1,7 @@
 -- Clients: links that are no peers' and have faces. For each client, the time is stored when
 -- something arrived from it last. Durations are in milliseconds, and times in milliseconds since
 -- 1970.
-use Rattle.std.specs.Prelude.{◌≡◌, ℕ, ◌+◌, ◌<◌, ◌≤◌, ◌⊎◌, List, All, filter, length, not, position, slice_get, slice_set, take, Option, None, Some, ⊤}
+use Rattle.std.specs.Prelude.{◌≡◌, ℕ, ◌+◌, ◌<◌, ◌≤◌, ◌⊎◌, Bool, false, List, All, filter, length, not, position, slice_get, slice_set, take, Option, None, Some, ⊤}
 use Rattle.face_table.specs.declared.clients.Client.{Client}
 use Rattle.face_table.specs.declared.clients.TheConstants.{GIVE_WAY_MILLISECONDS}
 use Rattle.face_table.specs.declared.link.Link.{Link}
@@ -26,11 +26,18 @@ abbrev pub IsIdle : Option ℕ → ℕ → Client → Type 0
 IsIdle None now client = ⊥
 IsIdle (Some idle) now client = IsSilent idle now client
 
--- an idle time is set, and the client has been silent for at least 10 seconds; so the client's face
--- may close to make room for a link without a face
-abbrev pub GivesWay : Option ℕ → ℕ → Client → Type 0
-GivesWay None now client = ⊥
-GivesWay (Some idle) now client = IsSilent GIVE_WAY_MILLISECONDS now client
+-- The client's face is Far, and the node has nothing for it (`holds` is false), or the client has
+-- been silent for at least 10 seconds.
+abbrev pub IsSpared : ℕ → (ℕ → Bool) → Client → Type 0
+IsSpared now holds client =
+    (is_local client.link ≡ false)
+    × ((holds client.face ≡ false) ⊎ IsSilent GIVE_WAY_MILLISECONDS now client)
+
+-- the client's face may close to make room for a link without a face: an idle time is set, and the
+-- face can be spared
+abbrev pub MayGiveWay : Option ℕ → ℕ → (ℕ → Bool) → Client → Type 0
+MayGiveWay None now holds client = ⊥
+MayGiveWay (Some idle) now holds client = IsSpared now holds client
 
 -- The client at index `place` has been silent longest. If several clients have been silent equally
 -- long, the client at index `place` is the first of these clients.
@@ -38,6 +45,15 @@ pub record IsSilentLongest (clients : List Client) (place : ℕ) (client : Clien
   pub is : slice_get clients place ≡ Some client
   pub least : All (λ other. client.heard ≤ other.heard) clients
   pub first : All (λ other. client.heard < other.heard) (take place clients)
+
+-- Of the clients with the property `Goes`, the client at index `place` has been silent longest. If
+-- several of them have been silent equally long, the client at index `place` is the first of these.
+pub record IsSilentLongestOf (Goes : Client → Type 0) (clients : List Client) (place : ℕ)
+    (client : Client) : Type 0 where
+  pub is : slice_get clients place ≡ Some client
+  pub goes : Goes client
+  pub least : All (λ other. Goes other → client.heard ≤ other.heard) clients
+  pub first : All (λ other. Goes other → client.heard < other.heard) (take place clients)
 
 -- something arrives at the time `now` from the first client with this link, which has this face;
 -- nothing else changes

@@ -1,26 +1,51 @@
 -- The links that have faces, and what is done with what arrives from a link: it arrives on the
 -- link's face, a face opens for the link, or the face of a client closes first. The client whose
 -- face closes may be the link's own.
-use Rattle.std.specs.Prelude.{◌≡◌, ℕ, ◌+◌, ◌-◌, ◌<◌, ◌⊎◌, ◌==◌, List, [], ◌∷◌, ◌++◌, All, find, length, min, option_map, position, remove, slice_get, unwrap_or, Option, None, Some, IsTrue, if◌then◌else◌}
+use Rattle.std.specs.Prelude.{◌≡◌, ℕ, ◌+◌, ◌-◌, ◌<◌, ◌⊎◌, ◌==◌, Bool, List, [], ◌∷◌, ◌++◌, All, find, length, min, option_map, position, remove, slice_get, unwrap_or, Option, None, Some, IsTrue, if◌then◌else◌}
 use Rattle.std.specs.Option.{option_and_then, option_or}
 use Rattle.std.specs.declared.net.socket_addr.SocketAddr.{SocketAddr}
 use Rattle.face_table.specs.declared.peers.TheConstants.{MAX_FACES}
 use Rattle.face_table.specs.declared.clients.Client.{Client}
 use Rattle.face_table.specs.declared.link.Link.{Link}
 use Rattle.face_table.specs.declared.link.Link.TheVariants.{Udp}
-use Rattle.face_table.specs.declared.table.FaceTable.{FaceTable}
 use Rattle.face_table.specs.declared.table.Met.{Met}
 use Rattle.face_table.specs.declared.table.Met.TheVariants.{Face, Opening, Closing}
 use Rattle.face_table.specs.Link.{heard_at, is_at, is_endpoint, is_local, udp_endpoint}
-use Rattle.face_table.specs.Clients.{far_count, GivesWay, Hears, HearsInTime, IsIdle, IsNoClient, IsSilentLongest}
+use Rattle.face_table.specs.Clients.{ClientsState, far_count, MayGiveWay, Hears, HearsInTime, IsIdle, IsNoClient, IsSilentLongest, IsSilentLongestOf}
+
+pub record TableState : Type 0 where
+  -- the endpoints of the peers, which have the faces 1, 2 and so on
+  pub peers : List SocketAddr
+  pub clients : ClientsState
+  -- the number of places, of the 64, that Far faces of clients leave to peers and to Local links
+  pub spare : ℕ
+  -- the number of the next face to open
+  pub next : ℕ
+  -- The face number of all links that are not stored because no place is left. It becomes None
+  -- whenever a face opens for a new client, and remains None until such a link is met.
+  pub refused : Option ℕ
+
+-- the table with these peers, which has no clients, no idle time and no spare places
+abbrev pub table_of : List SocketAddr → TableState
+table_of peers = record {
+  peers = peers;
+  clients = record { rows = []; idle = None };
+  spare = 0;
+  next = length peers + 1;
+  refused = None;
+}
+
+-- the table, where the idle time is set to `idle`
+abbrev pub idle_after : ℕ → TableState → TableState
+idle_after idle table = record table { clients = record table.clients { idle = Some idle } }
 
 -- the number of links with faces
-abbrev pub known_count : FaceTable → ℕ
+abbrev pub known_count : TableState → ℕ
 known_count table = length table.peers + length table.clients.rows
 
 -- A face may open for this link: fewer than 64 links have faces, and if the face is Far, clients
 -- with Far faces leave more than `spare` places free for other faces.
-abbrev pub HasPlace : FaceTable → Link → Type 0
+abbrev pub HasPlace : TableState → Link → Type 0
 HasPlace table link =
     (known_count table < MAX_FACES)
     × (IsTrue (is_local link) ⊎ (far_count table.clients.rows < MAX_FACES - table.spare))
@@ -31,13 +56,13 @@ abbrev pub peer_at : List SocketAddr → ℕ → Option SocketAddr
 peer_at peers face = if face == 0 then None else slice_get peers (face - 1)
 
 -- the link of the peer or client with this face, or None if nothing has this face
-abbrev pub link_at : FaceTable → ℕ → Option Link
+abbrev pub link_at : TableState → ℕ → Option Link
 link_at table face = option_or (option_map Udp (peer_at table.peers face))
     (option_map (λ (client : Client). client.link)
     (find (λ client. client.face == face) table.clients.rows))
 
 -- the UDP endpoint of the peer or client with this face; None if no UDP endpoint has this face
-abbrev pub endpoint_at : FaceTable → ℕ → Option SocketAddr
+abbrev pub endpoint_at : TableState → ℕ → Option SocketAddr
 endpoint_at table face = option_and_then udp_endpoint (link_at table face)
 
 -- the index of the first peer with this endpoint, or None if no peer has this endpoint
@@ -45,16 +70,16 @@ abbrev pub place_among : List SocketAddr → SocketAddr → Option ℕ
 place_among peers endpoint = position (is_endpoint endpoint) peers
 
 -- the index of the first peer with this link, or None if the link is no peer's
-abbrev pub peer_place : Link → FaceTable → Option ℕ
+abbrev pub peer_place : Link → TableState → Option ℕ
 peer_place link table = option_and_then (place_among table.peers) (udp_endpoint link)
 
 -- the table, where the list of clients is replaced by `rows`
-abbrev pub with_clients : FaceTable → List Client → FaceTable
+abbrev pub with_clients : TableState → List Client → TableState
 with_clients table rows = record table { clients = record table.clients { rows = rows } }
 
 -- The link has this face. The faces of the peers have the numbers 1, 2 and so on. If the link is a
 -- client's, something has arrived from the client at `now`.
-abbrev pub Knows : FaceTable → FaceTable → Link → ℕ → ℕ → Type 0
+abbrev pub Knows : TableState → TableState → Link → ℕ → ℕ → Type 0
 Knows before after link now face =
     ((place : ℕ) × (peer_place link before ≡ Some place) × (face ≡ place + 1)
     × (after ≡ before))
@@ -62,7 +87,7 @@ Knows before after link now face =
     × Hears before.clients.rows rows link now face × (after ≡ with_clients before rows))
 
 -- the link has no face
-abbrev pub IsNewcomer : FaceTable → Link → Type 0
+abbrev pub IsNewcomer : TableState → Link → Type 0
 IsNewcomer before link = (peer_place link before ≡ None) × IsNoClient before.clients.rows link
 
 -- the number after a face's number, at most the greatest u64
@@ -71,7 +96,7 @@ number_after face = min (face + 1) 0xffff_ffff_ffff_ffff
 
 -- the face with the next number opens for the link, which becomes a client from which something
 -- arrived at `now`
-abbrev pub OpensNew : FaceTable → FaceTable → Link → ℕ → ℕ → Type 0
+abbrev pub OpensNew : TableState → TableState → Link → ℕ → ℕ → Type 0
 OpensNew before after link now face =
     (face ≡ before.next)
     × (after ≡ record (with_clients before
@@ -83,54 +108,56 @@ OpensNew before after link now face =
 
 -- The link gets the face number `face`, but is not stored as a client. All links that are not
 -- stored get the same face number until a face opens for a new client.
-abbrev pub OpensNone : FaceTable → FaceTable → ℕ → Type 0
+abbrev pub OpensNone : TableState → TableState → ℕ → Type 0
 OpensNone before after face =
     (face ≡ unwrap_or before.refused before.next)
     × (after ≡ record before { next = number_after face; refused = Some face })
 
--- The face of `client` closes. Among the clients in `before`, `client` has been silent longest. The
--- clients in `after` are `rows` without `client`.
-abbrev pub Closes : FaceTable → List Client → FaceTable → Client → ℕ → Type 0
-Closes before rows after client face =
-    (place : ℕ) × IsSilentLongest before.clients.rows place client × (face ≡ client.face)
-    × (after ≡ with_clients before (remove rows place))
+-- the face of `client`, which is at the index `place`, closes; the clients in `after` are `rows`
+-- without this client
+abbrev pub Closes : TableState → List Client → TableState → ℕ → Client → ℕ → Type 0
+Closes before rows after place client face =
+    (face ≡ client.face) × (after ≡ with_clients before (remove rows place))
 
 -- no client is idle (`IsIdle`) at the time `now`
-abbrev pub NoneIsIdle : FaceTable → ℕ → Type 0
+abbrev pub NoneIsIdle : TableState → ℕ → Type 0
 NoneIsIdle before now =
     All (λ client. IsIdle before.clients.idle now client → ⊥) before.clients.rows
 
--- no client gives way (`GivesWay`): no face may close to make room for a link without a face
-abbrev pub NoneGivesWay : FaceTable → ℕ → Type 0
-NoneGivesWay before now =
-    All (λ client. GivesWay before.clients.idle now client → ⊥) before.clients.rows
+-- no client may give way (`MayGiveWay`): no face may close to make room for a link without a face
+abbrev pub NoneGivesWay : TableState → ℕ → (ℕ → Bool) → Type 0
+NoneGivesWay before now holds =
+    All (λ client. MayGiveWay before.clients.idle now holds client → ⊥) before.clients.rows
 
--- What is done with what arrives from `link`. If a client is idle, the face of the client that has
--- been silent longest closes, whatever `link` is. If a client is idle, and the link is another
--- client's that is not idle, something has arrived from that client at `now`. If no client is idle
--- and the link has a face, it arrives on this face. If no client is idle, the link has no face, and
--- a place is left (`HasPlace`), a face opens for the link. If no client is idle, the link has no
--- face, no place is left, and the client that has been silent longest gives way (`GivesWay`), then
--- the face of this client closes. If no client is idle, the link has no face, no place is left, and
--- no client gives way, then no face closes, and the link gets a face number but is not stored
--- (`OpensNone`).
-abbrev pub Meets : FaceTable → FaceTable → Link → ℕ → Met → Type 0
-Meets before after link now (Face face) =
+-- What is done with what arrives from `link`. The node has something for the faces for which
+-- `holds` is true. If a client is idle, the face of the client that has been silent longest closes,
+-- whatever `link` is. If a client is idle, and the link is another client's that is not idle,
+-- something has arrived from that client at `now`. If no client is idle and the link has a face, it
+-- arrives on this face. If no client is idle, the link has no face, and a place is left
+-- (`HasPlace`), a face opens for the link. If no client is idle, the link has no face, no place is
+-- left, and a client may give way (`MayGiveWay`), then the face of the client closes that has been
+-- silent longest of those that may. If no client is idle, the link has no face, no
+-- place is left, and no client may give way, then no face closes, and the link gets a face number
+-- but is not stored (`OpensNone`).
+abbrev pub Meets : TableState → TableState → Link → ℕ → (ℕ → Bool) → Met → Type 0
+Meets before after link now holds (Face face) =
     NoneIsIdle before now × Knows before after link now face
-Meets before after link now (Opening face) =
+Meets before after link now holds (Opening face) =
     NoneIsIdle before now × IsNewcomer before link
     × ((HasPlace before link × OpensNew before after link now face)
-    ⊎ (¬ (HasPlace before link) × NoneGivesWay before now × OpensNone before after face))
-Meets before after link now (Closing face) =
-    ((client : Client) × (rows : List Client) × IsIdle before.clients.idle now client
+    ⊎ (¬ (HasPlace before link) × NoneGivesWay before now holds × OpensNone before after face))
+Meets before after link now holds (Closing face) =
+    ((place : ℕ) × (client : Client) × (rows : List Client)
+    × IsSilentLongest before.clients.rows place client × IsIdle before.clients.idle now client
     × HearsInTime before.clients.idle before.clients.rows rows link now
-    × Closes before rows after client face)
+    × Closes before rows after place client face)
     ⊎ (NoneIsIdle before now × IsNewcomer before link × ¬ (HasPlace before link)
-    × ((client : Client) × GivesWay before.clients.idle now client
-    × Closes before before.clients.rows after client face))
+    × ((place : ℕ) × (client : Client)
+    × IsSilentLongestOf (MayGiveWay before.clients.idle now holds) before.clients.rows place client
+    × Closes before before.clients.rows after place client face))
 
 -- The face of the client with this link closes, since its connection has ended.
-abbrev pub Leaves : FaceTable → FaceTable → Link → ℕ → Type 0
+abbrev pub Leaves : TableState → TableState → Link → ℕ → Type 0
 Leaves before after link face =
     (place : ℕ) × (client : Client)
     × (position (λ known. is_at link known.link) before.clients.rows ≡ Some place)

@@ -1,16 +1,18 @@
 //! Clients: the links of strangers, and connections, which got their faces while the node runs.
-ghost use Rattle.std.specs.Prelude.{◌≡◌, ◌∷◌, ◌++◌, [], ◌+◌, ◌<◌, ◌≤◌, ◌==◌, ◌↔◌, All, length, List, slice_get, slice_set, remove, position, find, option_map, IfSome, IsTrue, Some, None, true, false};
-ghost use Rattle.face_table.specs.Clients.{far_count, GivesWay, Hears, HearsInTime, IsIdle, IsNoClient, IsSilent, IsSilentLongest};
+ghost use Rattle.std.specs.Prelude.{◌≡◌, ◌∷◌, ◌++◌, [], ◌+◌, ◌<◌, ◌≤◌, ◌==◌, ◌↔◌, ℕ, All, length, List, slice_get, slice_set, remove, position, find, option_map, IfSome, IsTrue, Some, None, true, false};
+ghost use Rattle.face_table.specs.Clients.{far_count, Hears, HearsInTime, IsIdle, IsNoClient, IsSilent, IsSilentLongest, IsSilentLongestOf, IsSpared, MayGiveWay};
 ghost use Rattle.face_table.specs.Link.{heard_at, is_at};
 ghost use Rattle.face_table.specs.declared.clients.Client.{Client};
 
+use crate::holdings::Holdings;
 use crate::link::Link;
 use crate::peers::MAX_FACES;
 use arrayvec::ArrayVec;
 use std::marker::Model;
 
 /// How long a client must have been silent (nothing has arrived from it), in milliseconds, before
-/// its face may close to make room for a link without a face.
+/// its face may close to make room for a link without a face, if the node has something for the
+/// face (`Holdings`).
 pub const GIVE_WAY_MILLISECONDS: u64 = 10_000;
 
 /// A link that is no peer's and has a face.
@@ -39,8 +41,8 @@ impl Default for Client {
 /// The clients, at most 64, in the order of their faces.
 ///
 /// If an idle time is set, the face of a client that has been silent for that time may close. If an
-/// idle time is set, the face of a client that has been silent for `GIVE_WAY_MILLISECONDS` may
-/// close to make room for a link without a face.
+/// idle time is set, a Far face may also close to make room for a link without a face: at once if
+/// the node has nothing for it (`Holdings`), otherwise after `GIVE_WAY_MILLISECONDS` of silence.
 #[derive(Drop)]
 pub struct Clients {
     rows: ArrayVec<Client, MAX_FACES>,
@@ -194,7 +196,8 @@ impl Clients {
         ensures { (client : Client) × (slice_get self.old.rows place ≡ Some client)
             × (result ≡ client.face)
             × (self.new ≡ record self.old {
-              rows = slice_set self.old.rows place (record client { heard = heard_at client.link now });
+              rows = slice_set self.old.rows place
+                  (record client { heard = heard_at client.link now });
             }) }
     {
         self.heard_until = self.heard_until.min(end_of(self.idle, now));
@@ -220,18 +223,21 @@ impl Clients {
         place
     }
 
-    /// Returns the index of the client that has been silent longest, if its face may close at the
-    /// time `now` to make room for a link without a face. Returns `None` if no client's face
-    /// may close to make room.
-    pub fn yielding_place(&self, now: u64) -> Option<usize>
+    /// Returns the index of the client that has been silent longest of those whose faces may close
+    /// at the time `now` to make room for a link without a face. If several of them have been
+    /// silent equally long, returns the index of the first of these. Returns `None` if no client's
+    /// face may close to make room.
+    pub fn yielding_place<H: Holdings>(&self, now: u64, holdings: &H) -> Option<usize>
         ensures none { result ≡ None
-            → All (λ client. GivesWay self.now.idle now client → ⊥) self.now.rows }
+            → All (λ client. MayGiveWay self.now.idle now (H.holds holdings.now) client → ⊥)
+            self.now.rows }
         ensures longest { IfSome result (λ place. (client : Client)
-            × IsSilentLongest self.now.rows place client × GivesWay self.now.idle now client) }
+            × IsSilentLongestOf (MayGiveWay self.now.idle now (H.holds holdings.now))
+            self.now.rows place client) }
         ensures within { IfSome result (λ place. place < length self.now.rows) }
     {
         let _idle = self.idle?;
-        self.silent_for(GIVE_WAY_MILLISECONDS, now)
+        first_spared(self.rows.as_slice(), now, holdings)
     }
 
     /// Returns the index of the client that has been silent longest, if that client has been silent
@@ -282,7 +288,8 @@ fn hear_at(clients: &mut [Client], place: usize, now: u64) -> u64
     requires { place < length clients.old }
     ensures { (client : Client) × (slice_get clients.old place ≡ Some client)
         × (result ≡ client.face)
-        × (clients.new ≡ slice_set clients.old place (record client { heard = heard_at client.link now })) }
+        × (clients.new ≡ slice_set clients.old place
+        (record client { heard = heard_at client.link now })) }
 {
     clients[place].heard = clients[place].link.heard_at(now);
     clients[place].face
@@ -314,4 +321,49 @@ fn silent_longest(clients: &[Client]) -> usize
         }
     }
     longest
+}
+
+/// Returns the index of the client that has been silent longest of those whose faces can be spared.
+/// If several of them have been silent equally long, returns the index of the first of these.
+/// Returns `None` if no client's face can be spared.
+fn first_spared<H: Holdings>(clients: &[Client], now: u64, holdings: &H) -> Option<usize>
+    ensures none { result ≡ None
+        → All (λ client. IsSpared now (H.holds holdings.now) client → ⊥) clients.now }
+    ensures longest { IfSome result (λ place. (client : Client)
+        × IsSilentLongestOf (IsSpared now (H.holds holdings.now)) clients.now place client) }
+    ensures within { IfSome result (λ place. place < length clients.now) }
+{
+    let mut first = None;
+    for place in 0..clients.len() {
+        if is_spared(&clients[place], now, holdings) && is_longer(clients, place, first) {
+            first = Some(place);
+        }
+    }
+    first
+}
+
+/// Returns whether the client's face can be spared at the time `now`.
+fn is_spared<H: Holdings>(client: &Client, now: u64, holdings: &H) -> bool
+    ensures { IsTrue result ↔ IsSpared now (H.holds holdings.now) client.now }
+{
+    !client.link.is_local()
+        && (is_silent(client.heard, GIVE_WAY_MILLISECONDS, now) || !holdings.holds(client.face))
+}
+
+/// Returns whether the client at index `place` has been silent longer than the one at index
+/// `other`, or there is no such other.
+fn is_longer(clients: &[Client], place: usize, other: Option<usize>) -> bool
+    requires place { place < length clients.now }
+    requires other { IfSome other (λ other. other < length clients.now) }
+    ensures yes { result ≡ true → IfSome other (λ other. (client later : Client)
+        → slice_get clients.now place ≡ Some client → slice_get clients.now other ≡ Some later
+        → client.heard < later.heard) }
+    ensures no { result ≡ false → (known : ℕ) × (other ≡ Some known)
+        × ((client sooner : Client) → slice_get clients.now place ≡ Some client
+        → slice_get clients.now known ≡ Some sooner → sooner.heard ≤ client.heard) }
+{
+    match other {
+        Some(other) => clients[place].heard < clients[other].heard,
+        None => true,
+    }
 }

@@ -3,11 +3,13 @@
 #![tactic(auto)]
 
 mod clients;
+mod holdings;
 mod link;
 mod peers;
 mod table;
 
 pub use clients::{Client, Clients, GIVE_WAY_MILLISECONDS};
+pub use holdings::Holdings;
 pub use link::Link;
 pub use peers::{MAX_FACES, Peers};
 pub use table::{FaceTable, Met};

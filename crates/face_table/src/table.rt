@@ -2,11 +2,13 @@
 ghost use Rattle.std.specs.Prelude.{◌≡◌, ◌↔◌, [], ◌+◌, ◌<◌, ◌≤◌, length, List, IfSome, IsTrue, None, Some};
 ghost use Rattle.face_table.specs.Clients.{IsNoClient, MayHear};
 ghost use Rattle.face_table.specs.declared.clients.Client.{Client};
-ghost use Rattle.face_table.specs.Table.{HasPlace, IsNewcomer, Knows, Leaves, Meets, OpensNew, OpensNone, endpoint_at, link_at, peer_at, peer_place, with_clients};
+ghost use Rattle.face_table.specs.Table.{HasPlace, IsNewcomer, Knows, Leaves, Meets, OpensNew, OpensNone, endpoint_at, idle_after, link_at, peer_at, peer_place, table_of, with_clients};
 
 use crate::clients::{Client, Clients};
+use crate::holdings::Holdings;
 use crate::link::Link;
 use crate::peers::{MAX_FACES, Peers};
+use std::marker::Model;
 use std::net::SocketAddr;
 
 /// What to do with what arrives from a link.
@@ -15,8 +17,10 @@ pub enum Met {
     /// The link has the face with this number, and what came arrives on this face.
     Face(u64),
     /// The link has no face. An arrival opens a face with this number for the link, and then what
-    /// came arrives on this face. If no place is left, the link is not stored, and a node with 64
-    /// faces does not open the face.
+    /// came arrives on this face. If no place is left, the link is not stored, and
+    /// `FaceTable::link_of` has no link for the face. A node with 64 faces does not open such a
+    /// face. A node with fewer, as while places are spare, would open it, so the caller drops what
+    /// came, and opens no face.
     Opening(u64),
     /// The face with this number must close before what came is handled.
     Closing(u64),
@@ -24,32 +28,42 @@ pub enum Met {
 
 /// The links that have faces: the peers, which have the faces 1, 2 and so on, and the clients. The
 /// number of an opened face is never used for another face, unless it is the greatest u64.
+///
+/// In clauses, a table is a `TableState`.
 #[derive(Drop)]
 pub struct FaceTable {
-    pub peers: Peers,
-    pub clients: Clients,
-    /// The number of places, of the 64, that Far faces of clients leave to peers and to Local
-    /// links.
-    pub spare: usize,
-    /// The number of the next face to open.
-    pub next: u64,
-    /// The face number of all links that are not stored because no place is left. At the start, and
-    /// whenever a face is opened for a new client, `refused` becomes `None`, and remains `None`
-    /// until such a link is met.
-    pub refused: Option<u64>,
+    peers: Peers,
+    clients: Clients,
+    // The number of places, of the 64, that Far faces of clients leave to peers and to Local links.
+    spare: usize,
+    // The number of the next face to open.
+    next: u64,
+    // The face number of all links that are not stored because no place is left. At the start, and
+    // whenever a face is opened for a new client, `refused` becomes `None`, and remains `None`
+    // until such a link is met.
+    refused: Option<u64>,
+}
+
+impl Model for FaceTable {
+    ghost use Rattle.face_table.specs.Table.{TableState};
+
+    ghost Value = { TableState };
+
+    ghost view = { λ t. record {
+      peers = t.peers;
+      clients = t.clients;
+      spare = t.spare;
+      next = t.next;
+      refused = t.refused;
+    } };
 }
 
 impl FaceTable {
-    /// Returns the table with these peers, at most 64, and without clients. No places are spare.
+    /// Returns the table with these peers, at most 64, and without clients. No idle time is set,
+    /// and no places are spare.
     pub fn new(peers: &[SocketAddr]) -> FaceTable
         requires { length peers.now ≤ MAX_FACES }
-        ensures { result ≡ record {
-          peers = peers.now;
-          clients = record { rows = []; idle = None };
-          spare = 0;
-          next = length peers.now + 1;
-          refused = None;
-        } }
+        ensures { result ≡ table_of peers.now }
     {
         FaceTable {
             peers: Peers::new(peers),
@@ -58,6 +72,29 @@ impl FaceTable {
             next: peers.len() as u64 + 1,
             refused: None,
         }
+    }
+
+    /// Sets the idle time, in milliseconds, after which a client's face may close. From now on, the
+    /// face of a client may also close to make room for a link without a face.
+    pub fn close_after(&mut self, idle: u64)
+        ensures { self.new ≡ idle_after idle self.old }
+    {
+        self.clients.close_after(idle);
+    }
+
+    /// Sets the number of places, of the 64, that Far faces of clients leave to peers and to Local
+    /// links.
+    pub fn leave_spare(&mut self, spare: usize)
+        ensures { self.new ≡ record self.old { spare = spare } }
+    {
+        self.spare = spare;
+    }
+
+    /// Returns the peers.
+    pub fn peers(&self) -> &Peers
+        ensures { result.now ≡ self.now.peers }
+    {
+        &self.peers
     }
 
     /// Returns the link of a face, or `None` if nothing has this face.
@@ -93,9 +130,10 @@ impl FaceTable {
         self.peers.place_of(link.udp_endpoint()?)
     }
 
-    /// Decides what to do with what arrives from `link` at the time `now`.
-    pub fn meet(&mut self, link: Link, now: u64) -> Met
-        ensures { Meets self.old self.new link now result }
+    /// Decides what to do with what arrives from `link` at the time `now`, in milliseconds since
+    /// 1970. `holdings` is what the node has for its faces.
+    pub fn meet<H: Holdings>(&mut self, link: Link, now: u64, holdings: &H) -> Met
+        ensures { Meets self.old self.new link now (H.holds holdings.now) result }
     {
         if let Some(place) = self.clients.idle_place(now) {
             let face = self.clients.face_at(place);
@@ -111,7 +149,7 @@ impl FaceTable {
         if self.has_place(link) {
             return Met::Opening(self.open(link, now));
         }
-        match self.clients.yielding_place(now) {
+        match self.clients.yielding_place(now, holdings) {
             Some(place) => {
                 let face = self.clients.face_at(place);
                 self.clients.remove(place);
