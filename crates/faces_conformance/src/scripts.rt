@@ -1,6 +1,6 @@
 //! What a table of faces answers to scripts of arrivals.
 
-use face_table::{FaceTable, Link, MAX_FACES, Met};
+use face_table::{FaceTable, Holdings, Link, MAX_FACES, Met};
 use std::alloc::Global;
 use std::net::{Ipv4Addr, SocketAddr, SocketAddrV4};
 use test_support::first_misshown;
@@ -35,13 +35,27 @@ const SCRIPTS: &str = "
 0; many 64 unix 1; unix 65; leave unix 9; unix 65; unix 9 -> opens 64 refuses 65 leaves 9 opens 66 refuses 67
 2; unix 5; tcp 192.0.2.1:80 6; leave unix 5; unix 7; tcp 192.0.2.1:80 6 -> opens 3 opens 4 leaves 3 opens 5 face 4
 2; leave udp 7001; leave unix 7001; udp 7001 -> none none face 1
-# While 64 are known, the silent longest gives way after 10 seconds, if an idle time is set.
+# While 64 are known, the silent longest gives way after 10 seconds, if an idle time is set and the
+# node has something for each face.
 0; idle 600000; at 1000; many 64 udp 8001; at 10999; udp 9001; udp 9002 -> opens 64 refuses 65 refuses 65
 0; idle 600000; at 1000; many 64 udp 8001; at 11000; udp 9001; udp 9001; udp 8002 -> opens 64 closes 1 opens 65 face 2
 0; idle 600000; at 1000; many 64 udp 8001; at 10999; udp 9001; at 11000; udp 9001; udp 9001 -> opens 64 refuses 65 closes 1 opens 66
 2; idle 600000; at 1000; many 62 udp 8001; at 5000; udp 8001; hear udp 8002; at 11000; udp 9001; udp 9001 -> opens 64 face 3 closes 5 opens 65
 0; at 1000; many 64 udp 8001; at 99999999; udp 9001; udp 8001 -> opens 64 refuses 65 face 1
 64; idle 600000; at 99999999; udp 9001; udp 7001 -> refuses 65 face 1
+# A Far face for which the node has nothing gives way at once: of several, the one silent longest.
+0; idle 600000; at 1000; many 64 udp 8001; empty 5 5; udp 9001; udp 9001; udp 9002 -> opens 64 closes 5 opens 65 refuses 66
+0; idle 600000; at 1000; many 64 udp 8001; at 1001; udp 8003; empty 3 6; udp 9001; udp 9001; udp 9002 -> opens 64 face 3 closes 4 opens 65 closes 5
+0; idle 600000; at 1000; many 64 udp 8001; empty 64 99; udp 9001; udp 9001; udp 9002; udp 9002; udp 9001 -> opens 64 closes 64 opens 65 closes 65 opens 66 closes 66
+0; idle 600000; at 1000; many 64 udp 8001; at 5000; udp 8007; empty 7 7; at 10999; udp 9001 -> opens 64 face 7 closes 7
+0; idle 600000; at 1000; many 64 udp 8001; at 5000; udp 8007; empty 7 7; at 11000; udp 9001 -> opens 64 face 7 closes 1
+0; idle 600000; at 5000; many 64 udp 8001; at 1000; empty 9 9; udp 9001; udp 9001 -> opens 64 closes 9 opens 65
+0; idle 600000; empty 1 999; again 200 udp 8001; udp 8138; udp 8136; udp 8136; udp 8138 -> opens 200 face 138 closes 137 opens 201 face 138
+0; idle 600000; empty 1 99; many 63 udp 8001; udp 9001; udp 8001 -> opens 63 opens 64 face 1
+0; idle 600000; at 1000; many 63 unix 1; tcp 192.0.2.1:80 64; empty 1 99; udp 9001; udp 9001; unix 65; unix 65; unix 66; unix 1 -> opens 63 opens 64 closes 64 opens 65 closes 65 opens 66 refuses 67 face 1
+0; spare 8; idle 600000; at 1000; many 56 udp 8001; empty 7 7; udp 9001; udp 9001; unix 1 -> opens 56 closes 7 opens 57 opens 58
+64; idle 600000; empty 1 64; udp 9001; udp 7001 -> refuses 65 face 1
+0; at 1000; many 64 udp 8001; empty 1 64; udp 9001; udp 8001 -> opens 64 refuses 65 face 1
 # A client that is silent for the idle time closes, whatever arrives, and at most one at a time.
 1; idle 600000; at 1000; udp 8001; at 600999; udp 8002; at 601000; udp 7001; udp 7001 -> opens 2 opens 3 closes 2 face 1
 0; idle 5000; at 1000; udp 8001; udp 8002; at 6000; udp 8002; udp 8002; udp 8002 -> opens 1 opens 2 closes 1 closes 2 opens 3
@@ -66,6 +80,31 @@ const SCRIPTS: &str = "
 # Over WebSocket, a connection is Far wherever it comes from.
 0; kind websocket 127.0.0.1:80 1; kind websocket [::1]:80 1; kind websocket 192.0.2.1:80 1 -> Far Far Far
 ";
+
+/// A node that has something for each face, except for those from `first` to `last`.
+#[derive(Drop)]
+struct Held {
+    first: u64,
+    last: u64,
+}
+
+impl Holdings for Held {
+    ghost use Rattle.std.specs.Prelude.{◌<◌, nat_lt, ◌||◌};
+
+    ghost holds = { λ node face. nat_lt face node.first || nat_lt node.last face };
+
+    fn holds(&self, face: u64) -> bool {
+        face < self.first || self.last < face
+    }
+}
+
+/// A table, the node that asks it, and the time.
+#[derive(Drop)]
+struct Scene {
+    table: FaceTable,
+    node: Held,
+    now: u64,
+}
 
 /// Appends a word, and a number if there is one, after a space if another word came before.
 fn put(text: &mut String, word: &str, number: Option<u64>) -> Option<()> {
@@ -105,13 +144,35 @@ fn link(words: &str) -> Option<Link> {
 }
 
 /// Has something arrive on so many links in turn, and returns the last answer.
-fn meet_many(table: &mut FaceTable, count: u64, words: &str, now: u64) -> Option<Met> {
+fn meet_many(scene: &mut Scene, count: u64, words: &str) -> Option<Met> {
     let (kind, rest) = words.split_once(' ')?;
     let mut last = None;
     for further in 0..count {
-        last = Some(table.meet(link_of(kind, rest, further)?, now));
+        last = Some(meet(scene, link_of(kind, rest, further)?));
     }
     last
+}
+
+/// Has something arrive on so many links in turn, on each again while a face must close first.
+fn meet_again(scene: &mut Scene, count: u64, words: &str) -> Option<Met> {
+    let (kind, rest) = words.split_once(' ')?;
+    let mut last = None;
+    for further in 0..count {
+        let link = link_of(kind, rest, further)?;
+        let mut met = meet(scene, link);
+        for _ in 0..MAX_FACES {
+            if let Met::Closing(_) = met {
+                met = meet(scene, link);
+            }
+        }
+        last = Some(met);
+    }
+    last
+}
+
+/// Has something arrive on a link.
+fn meet(scene: &mut Scene, link: Link) -> Met {
+    scene.table.meet(link, scene.now, &scene.node)
 }
 
 /// Appends an answer of the table.
@@ -140,26 +201,38 @@ fn put_port(table: &FaceTable, face: u64, text: &mut String) -> Option<()> {
     }
 }
 
+/// Reads a count and the first link, and has something arrive on so many links.
+fn put_all(scene: &mut Scene, kind: &str, words: &str, text: &mut String) -> Option<()> {
+    let (count, first) = words.split_once(' ')?;
+    let count = count.parse().ok()?;
+    let met = match kind {
+        "again" => meet_again(scene, count, first)?,
+        _ => meet_many(scene, count, first)?,
+    };
+    put_met(&scene.table, met, text)
+}
+
 /// Makes a call.
-fn call(table: &mut FaceTable, words: &str, now: &mut u64, text: &mut String) -> Option<()> {
+fn call(scene: &mut Scene, words: &str, text: &mut String) -> Option<()> {
     let (kind, rest) = words.split_once(' ')?;
     match kind {
-        "at" => *now = rest.parse().ok()?,
-        "idle" => table.clients.close_after(rest.parse().ok()?),
-        "spare" => table.spare = rest.parse().ok()?,
-        "hear" => table.hear_client(link(rest)?, *now),
-        "leave" => put_left(table, link(rest)?, text)?,
-        "to" => put_port(table, rest.parse().ok()?, text)?,
+        "at" => scene.now = rest.parse().ok()?,
+        "idle" => scene.table.close_after(rest.parse().ok()?),
+        "spare" => scene.table.leave_spare(rest.parse().ok()?),
+        "empty" => {
+            let (first, last) = rest.split_once(' ')?;
+            scene.node.first = first.parse().ok()?;
+            scene.node.last = last.parse().ok()?;
+        }
+        "hear" => scene.table.hear_client(link(rest)?, scene.now),
+        "leave" => put_left(&mut scene.table, link(rest)?, text)?,
+        "to" => put_port(&scene.table, rest.parse().ok()?, text)?,
         "kind" if link(rest)?.is_local() => put(text, "Local", None)?,
         "kind" => put(text, "Far", None)?,
-        "many" => {
-            let (count, first) = rest.split_once(' ')?;
-            let met = meet_many(table, count.parse().ok()?, first, *now)?;
-            put_met(table, met, text)?;
-        }
+        "many" | "again" => put_all(scene, kind, rest, text)?,
         _ => {
-            let met = meet_many(table, 1, words, *now)?;
-            put_met(table, met, text)?;
+            let met = meet_many(scene, 1, words)?;
+            put_met(&scene.table, met, text)?;
         }
     }
     Some(())
@@ -176,11 +249,14 @@ fn table_of(count: u16) -> Option<FaceTable> {
 
 fn shown(alloc: Global, script: &str) -> Option<String> {
     let (count, calls) = script.split_once("; ")?;
-    let mut table = table_of(count.parse().ok()?)?;
-    let mut now = 0;
+    let mut scene = Scene {
+        table: table_of(count.parse().ok()?)?,
+        node: Held { first: 1, last: 0 },
+        now: 0,
+    };
     let mut text = String::new(alloc);
     for words in calls.split("; ") {
-        call(&mut table, words, &mut now, &mut text)?;
+        call(&mut scene, words, &mut text)?;
     }
     Some(text)
 }
