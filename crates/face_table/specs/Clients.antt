@@ -26,18 +26,18 @@ abbrev pub IsIdle : Option ℕ → ℕ → Client → Type 0
 IsIdle None now client = ⊥
 IsIdle (Some idle) now client = IsSilent idle now client
 
--- The client's face is Far, and the node has nothing for it (`holds` is false), or the client has
+-- The client's face is Far, and the node has nothing for it (not `Holds`), or the client has
 -- been silent for at least 10 seconds.
-abbrev pub IsSpared : ℕ → (ℕ → Bool) → Client → Type 0
-IsSpared now holds client =
+abbrev pub IsSpared : ℕ → (ℕ → Type 0) → Client → Type 0
+IsSpared now Holds client =
     (is_local client.link ≡ false)
-    × ((holds client.face ≡ false) ⊎ IsSilent GIVE_WAY_MILLISECONDS now client)
+    × ((Holds client.face → ⊥) ⊎ IsSilent GIVE_WAY_MILLISECONDS now client)
 
 -- the client's face may close to make room for a link without a face: an idle time is set, and the
 -- face can be spared
-abbrev pub MayGiveWay : Option ℕ → ℕ → (ℕ → Bool) → Client → Type 0
-MayGiveWay None now holds client = ⊥
-MayGiveWay (Some idle) now holds client = IsSpared now holds client
+abbrev pub MayGiveWay : Option ℕ → ℕ → (ℕ → Type 0) → Client → Type 0
+MayGiveWay None now Holds client = ⊥
+MayGiveWay (Some idle) now Holds client = IsSpared now Holds client
 
 -- The client at index `place` has been silent longest. If several clients have been silent equally
 -- long, the client at index `place` is the first of these clients.

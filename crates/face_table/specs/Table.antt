@@ -125,12 +125,12 @@ NoneIsIdle before now =
     All (λ client. IsIdle before.clients.idle now client → ⊥) before.clients.rows
 
 -- no client may give way (`MayGiveWay`): no face may close to make room for a link without a face
-abbrev pub NoneGivesWay : TableState → ℕ → (ℕ → Bool) → Type 0
-NoneGivesWay before now holds =
-    All (λ client. MayGiveWay before.clients.idle now holds client → ⊥) before.clients.rows
+abbrev pub NoneGivesWay : TableState → ℕ → (ℕ → Type 0) → Type 0
+NoneGivesWay before now Holds =
+    All (λ client. MayGiveWay before.clients.idle now Holds client → ⊥) before.clients.rows
 
 -- What is done with what arrives from `link`. The node has something for the faces for which
--- `holds` is true. If a client is idle, the face of the client that has been silent longest closes,
+-- `Holds` is true. If a client is idle, the face of the client that has been silent longest closes,
 -- whatever `link` is. If a client is idle, and the link is another client's that is not idle,
 -- something has arrived from that client at `now`. If no client is idle and the link has a face, it
 -- arrives on this face. If no client is idle, the link has no face, and a place is left
@@ -139,21 +139,21 @@ NoneGivesWay before now holds =
 -- silent longest of those that may. If no client is idle, the link has no face, no
 -- place is left, and no client may give way, then no face closes, and the link gets a face number
 -- but is not stored (`OpensNone`).
-abbrev pub Meets : TableState → TableState → Link → ℕ → (ℕ → Bool) → Met → Type 0
-Meets before after link now holds (Face face) =
+abbrev pub Meets : TableState → TableState → Link → ℕ → (ℕ → Type 0) → Met → Type 0
+Meets before after link now Holds (Face face) =
     NoneIsIdle before now × Knows before after link now face
-Meets before after link now holds (Opening face) =
+Meets before after link now Holds (Opening face) =
     NoneIsIdle before now × IsNewcomer before link
     × ((HasPlace before link × OpensNew before after link now face)
-    ⊎ (¬ (HasPlace before link) × NoneGivesWay before now holds × OpensNone before after face))
-Meets before after link now holds (Closing face) =
+    ⊎ (¬ (HasPlace before link) × NoneGivesWay before now Holds × OpensNone before after face))
+Meets before after link now Holds (Closing face) =
     ((place : ℕ) × (client : Client) × (rows : List Client)
     × IsSilentLongest before.clients.rows place client × IsIdle before.clients.idle now client
     × HearsInTime before.clients.idle before.clients.rows rows link now
     × Closes before rows after place client face)
     ⊎ (NoneIsIdle before now × IsNewcomer before link × ¬ (HasPlace before link)
     × ((place : ℕ) × (client : Client)
-    × IsSilentLongestOf (MayGiveWay before.clients.idle now holds) before.clients.rows place client
+    × IsSilentLongestOf (MayGiveWay before.clients.idle now Holds) before.clients.rows place client
     × Closes before before.clients.rows after place client face))
 
 -- The face of the client with this link closes, since its connection has ended.

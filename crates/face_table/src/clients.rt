@@ -229,10 +229,10 @@ impl Clients {
     /// face may close to make room.
     pub fn yielding_place<H: Holdings>(&self, now: u64, holdings: &H) -> Option<usize>
         ensures none { result ≡ None
-            → All (λ client. MayGiveWay self.now.idle now (H.holds holdings.now) client → ⊥)
+            → All (λ client. MayGiveWay self.now.idle now (H.Holds holdings.now) client → ⊥)
             self.now.rows }
         ensures longest { IfSome result (λ place. (client : Client)
-            × IsSilentLongestOf (MayGiveWay self.now.idle now (H.holds holdings.now))
+            × IsSilentLongestOf (MayGiveWay self.now.idle now (H.Holds holdings.now))
             self.now.rows place client) }
         ensures within { IfSome result (λ place. place < length self.now.rows) }
     {
@@ -328,9 +328,9 @@ fn silent_longest(clients: &[Client]) -> usize
 /// Returns `None` if no client's face can be spared.
 fn first_spared<H: Holdings>(clients: &[Client], now: u64, holdings: &H) -> Option<usize>
     ensures none { result ≡ None
-        → All (λ client. IsSpared now (H.holds holdings.now) client → ⊥) clients.now }
+        → All (λ client. IsSpared now (H.Holds holdings.now) client → ⊥) clients.now }
     ensures longest { IfSome result (λ place. (client : Client)
-        × IsSilentLongestOf (IsSpared now (H.holds holdings.now)) clients.now place client) }
+        × IsSilentLongestOf (IsSpared now (H.Holds holdings.now)) clients.now place client) }
     ensures within { IfSome result (λ place. place < length clients.now) }
 {
     let mut first = None;
@@ -344,7 +344,7 @@ fn first_spared<H: Holdings>(clients: &[Client], now: u64, holdings: &H) -> Opti
 
 /// Returns whether the client's face can be spared at the time `now`.
 fn is_spared<H: Holdings>(client: &Client, now: u64, holdings: &H) -> bool
-    ensures { IsTrue result ↔ IsSpared now (H.holds holdings.now) client.now }
+    ensures { IsTrue result ↔ IsSpared now (H.Holds holdings.now) client.now }
 {
     !client.link.is_local()
         && (is_silent(client.heard, GIVE_WAY_MILLISECONDS, now) || !holdings.holds(client.face))

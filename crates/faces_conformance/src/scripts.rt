@@ -89,9 +89,9 @@ struct Held {
 }
 
 impl Holdings for Held {
-    ghost use Rattle.std.specs.Prelude.{◌<◌, nat_lt, ◌||◌};
+    ghost use Rattle.std.specs.Prelude.{◌<◌, ◌⊎◌};
 
-    ghost holds = { λ node face. nat_lt face node.first || nat_lt node.last face };
+    ghost Holds = { λ node face. (face < node.first) ⊎ (node.last < face) };
 
     fn holds(&self, face: u64) -> bool {
         face < self.first || self.last < face

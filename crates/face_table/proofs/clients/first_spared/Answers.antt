@@ -6,7 +6,7 @@ use Rattle.face_table.proofs.clients.first_spared.Goals.{then-is_spared+then-is_
 
 pub loop-place-preserved : goal.loop-place-preserved
 loop-place-preserved g c =
-    let Goes = IsSpared c.args.now (g.H.Holdings.holds c.args.holdings.now) in
+    let Goes = IsSpared c.args.now (g.H.Holdings.Holds c.args.holdings.now) in
     let clients = c.args.clients.now in
     let place = c.loop-place.place in
     let found = c.loop-place.first in
@@ -22,7 +22,7 @@ loop-place-preserved g c =
     ]
 
 pub returns-clause-none : goal.returns-clause-none
-returns-clause-none g c = IsFound-none (IsSpared c.args.now (g.H.Holdings.holds c.args.holdings.now)) c.args.clients.now c.loop-place.place c.loop-place.first c.loop-place.invariant (omega arith)
+returns-clause-none g c = IsFound-none (IsSpared c.args.now (g.H.Holdings.Holds c.args.holdings.now)) c.args.clients.now c.loop-place.place c.loop-place.first c.loop-place.invariant (omega arith)
 
 pub returns-clause-longest : goal.returns-clause-longest
-returns-clause-longest g c = IsFound-some (IsSpared c.args.now (g.H.Holdings.holds c.args.holdings.now)) c.args.clients.now c.loop-place.place c.loop-place.first c.loop-place.invariant (omega arith) (omega arith)
+returns-clause-longest g c = IsFound-some (IsSpared c.args.now (g.H.Holdings.Holds c.args.holdings.now)) c.args.clients.now c.loop-place.place c.loop-place.first c.loop-place.invariant (omega arith) (omega arith)
