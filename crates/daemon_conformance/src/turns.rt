@@ -28,7 +28,7 @@ impl LogSink for Lines {
 }
 
 /// Returns a node without rules and keys, whose repository has the prefix `/repo`.
-fn node(alloc: Global) -> Option<Node> {
+pub fn node(alloc: Global) -> Option<Node> {
     let parts = NodeParts {
         rules: read_rules(alloc, b"").ok()?,
         keys: KeyBook::read_octets(alloc, b"").ok()?,

@@ -1,9 +1,10 @@
 //! Tests of ports that give new rules, and of the first events after a restart.
 ghost use Rattle.std.specs.Prelude.{⊤};
 
+use crate::turns::node;
 use key_files::KeyBook;
 use ndn_daemon::{Fault, RuleSource, WatchedPorts};
-use node_core::{Event, RunFault, read_rules};
+use node_core::{Event, Node, RunFault, read_rules};
 use node_ports::{FileOctets, MemoryPorts, Ports, Renewal, RestartedPorts};
 use std::alloc::Global;
 
@@ -58,7 +59,7 @@ fn packets_at(alloc: Global, moments: &[u64]) -> Option<MemoryPorts> {
 }
 
 /// Returns whether the next arrival is a packet of `packets_at` at the time `at`.
-fn brings_packet<P: Ports>(ports: &mut P, at: u64) -> bool {
+fn brings_packet<P: Ports>(ports: &mut P, node: &Node, at: u64) -> bool {
     let mut buffer = [0; 16];
     let Ok(
         Some(
@@ -68,7 +69,7 @@ fn brings_packet<P: Ports>(ports: &mut P, at: u64) -> bool {
                 octets: len,
             },
         ),
-    ) = ports.next(&mut buffer)
+    ) = ports.next(node, &mut buffer)
     else {
         return false;
     };
@@ -76,14 +77,14 @@ fn brings_packet<P: Ports>(ports: &mut P, at: u64) -> bool {
 }
 
 /// Returns whether the next arrival is new rules at the time `at`.
-fn brings_rules<P: Ports>(ports: &mut P, at: u64) -> bool {
-    matches!(ports.next(&mut [0; 16]), Ok(Some(Event::NewRules { now, .. })) if now == at)
+fn brings_rules<P: Ports>(ports: &mut P, node: &Node, at: u64) -> bool {
+    matches!(ports.next(node, &mut [0; 16]), Ok(Some(Event::NewRules { now, .. })) if now == at)
 }
 
 /// Returns whether the next arrival is the closing of this face at the time `at`.
-fn closes<P: Ports>(ports: &mut P, closed: u64, at: u64) -> bool {
+fn closes<P: Ports>(ports: &mut P, node: &Node, closed: u64, at: u64) -> bool {
     matches!(
-        ports.next(&mut [0; 16]),
+        ports.next(node, &mut [0; 16]),
         Ok(Some(Event::FaceDown { face, now })) if face == closed && now == at
     )
 }
@@ -97,11 +98,12 @@ fn rules_come_first(alloc: Global) -> Option<bool> {
         renewal: Some(renewal),
     };
     let mut ports = WatchedPorts::new(packets_at(alloc, &[999, 1000, 5000])?, source);
+    let node = node(alloc)?;
     Some(
-        brings_packet(&mut ports, 999)
-            && brings_rules(&mut ports, 1000)
-            && brings_packet(&mut ports, 1000)
-            && brings_packet(&mut ports, 5000),
+        brings_packet(&mut ports, &node, 999)
+            && brings_rules(&mut ports, &node, 1000)
+            && brings_packet(&mut ports, &node, 1000)
+            && brings_packet(&mut ports, &node, 5000),
     )
 }
 
@@ -124,11 +126,12 @@ fn restart_comes_first(alloc: Global) -> Option<bool> {
     first.push(Event::FaceDown { face: 7, now: 40 }).ok()?;
     first.push(Event::FaceDown { face: 9, now: 40 }).ok()?;
     let mut ports = RestartedPorts::new(first, packets_at(alloc, &[50])?);
+    let node = node(alloc)?;
     Some(
-        brings_rules(&mut ports, 40)
-            && closes(&mut ports, 7, 40)
-            && closes(&mut ports, 9, 40)
-            && brings_packet(&mut ports, 50),
+        brings_rules(&mut ports, &node, 40)
+            && closes(&mut ports, &node, 7, 40)
+            && closes(&mut ports, &node, 9, 40)
+            && brings_packet(&mut ports, &node, 50),
     )
 }
 

@@ -129,16 +129,16 @@ abbrev pub NoneGivesWay : TableState → ℕ → (ℕ → Type 0) → Type 0
 NoneGivesWay before now Holds =
     All (λ client. MayGiveWay before.clients.idle now Holds client → ⊥) before.clients.rows
 
--- What is done with what arrives from `link`. The node has something for the faces for which
--- `Holds` is true. If a client is idle, the face of the client that has been silent longest closes,
--- whatever `link` is. If a client is idle, and the link is another client's that is not idle,
--- something has arrived from that client at `now`. If no client is idle and the link has a face, it
--- arrives on this face. If no client is idle, the link has no face, and a place is left
+-- What is done with what arrives from `link`. The node has something for the faces with the
+-- property `Holds`. If a client is idle, the face of the client that has been silent longest
+-- closes, whatever `link` is. If a client is idle, and the link is another client's that is not
+-- idle, something has arrived from that client at `now`. If no client is idle and the link has a
+-- face, it arrives on this face. If no client is idle, the link has no face, and a place is left
 -- (`HasPlace`), a face opens for the link. If no client is idle, the link has no face, no place is
 -- left, and a client may give way (`MayGiveWay`), then the face of the client closes that has been
--- silent longest of those that may. If no client is idle, the link has no face, no
--- place is left, and no client may give way, then no face closes, and the link gets a face number
--- but is not stored (`OpensNone`).
+-- silent longest of those that may. If no client is idle, the link has no face, no place is left,
+-- and no client may give way, then no face closes, and the link gets a face number but is not
+-- stored (`OpensNone`).
 abbrev pub Meets : TableState → TableState → Link → ℕ → (ℕ → Type 0) → Met → Type 0
 Meets before after link now Holds (Face face) =
     NoneIsIdle before now × Knows before after link now face

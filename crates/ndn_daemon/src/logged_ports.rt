@@ -11,7 +11,7 @@ use journal::JournalFile;
 use ndn_log::{Entry, LoggedEvent};
 use ndn_tlv::Memory;
 use net_ports::NetPorts;
-use node_core::{Event, Verdict, WrittenEvent};
+use node_core::{Event, Node, Verdict, WrittenEvent};
 use node_ports::{
     Arrival, JournalledPorts, MemoryPorts, Moments, PortFault, Ports, RestartedPorts, Turn,
     UdpPorts,
@@ -146,7 +146,7 @@ impl<P: Ports + HasEndpoints + Drop, S: LogSink> LoggedPorts<P, S> {
 
     /// If lines of the log are buffered, returns the arrival that is available soon. If none is,
     /// the lines are written.
-    fn next_or_write_out(&mut self, buffer: &mut [u8]) -> Option<Arrival>
+    fn next_or_write_out(&mut self, node: &Node, buffer: &mut [u8]) -> Option<Arrival>
         ensures fits { IfSome result (LiesWithin (length buffer.new)) }
         ensures came { IfSome result (λ arrival. P.does self.old.ports
             (Got (length buffer.new) (arrived arrival buffer.new) ∷ []) self.new.ports) }
@@ -155,7 +155,7 @@ impl<P: Ports + HasEndpoints + Drop, S: LogSink> LoggedPorts<P, S> {
         if self.log.is_empty() {
             return None;
         }
-        if let Some(arrival) = self.ports.next_soon(buffer) {
+        if let Some(arrival) = self.ports.next_soon(node, buffer) {
             self.see(&arrival);
             return Some(arrival);
         }
@@ -211,11 +211,11 @@ impl<P: Ports + HasEndpoints + Drop, S: LogSink> Ports for LoggedPorts<P, S> {
 
     ghost stays = { λ p q. P.stays p.ports q.ports };
 
-    fn next(&mut self, buffer: &mut [u8]) -> Result<Option<Arrival>, PortFault> {
-        if let Some(arrival) = self.next_or_write_out(buffer) {
+    fn next(&mut self, node: &Node, buffer: &mut [u8]) -> Result<Option<Arrival>, PortFault> {
+        if let Some(arrival) = self.next_or_write_out(node, buffer) {
             return Ok(Some(arrival));
         }
-        match self.ports.next(buffer) {
+        match self.ports.next(node, buffer) {
             Ok(Some(arrival)) => {
                 self.see(&arrival);
                 Ok(Some(arrival))
@@ -225,8 +225,8 @@ impl<P: Ports + HasEndpoints + Drop, S: LogSink> Ports for LoggedPorts<P, S> {
         }
     }
 
-    fn next_soon(&mut self, buffer: &mut [u8]) -> Option<Arrival> {
-        let arrival = self.ports.next_soon(buffer)?;
+    fn next_soon(&mut self, node: &Node, buffer: &mut [u8]) -> Option<Arrival> {
+        let arrival = self.ports.next_soon(node, buffer)?;
         self.see(&arrival);
         Some(arrival)
     }

@@ -7,7 +7,7 @@ ghost use Rattle.ndn_daemon.specs.Watched.{IsRenewed};
 use crate::fault::Fault;
 use crate::logged_ports::HasEndpoints;
 use info_rules::Rules;
-use node_core::{Event, Verdict, WrittenEvent};
+use node_core::{Event, Node, Verdict, WrittenEvent};
 use node_ports::{Arrival, HeldArrival, PortFault, Ports, Renewal, Turn};
 use std::net::SocketAddr;
 
@@ -142,22 +142,22 @@ impl<P: Ports + Drop, S: RuleSource> Ports for WatchedPorts<P, S> {
     ghost stays = { λ p q steps. watched_stays P.does S.renews P.has_journal P.stays p.ports q.ports
         p.source q.source p.held q.held steps };
 
-    fn next(&mut self, buffer: &mut [u8]) -> Result<Option<Arrival>, PortFault> {
+    fn next(&mut self, node: &Node, buffer: &mut [u8]) -> Result<Option<Arrival>, PortFault> {
         if let Some(arrival) = self.held.take(buffer) {
             return Ok(Some(arrival));
         }
-        match self.ports.next(buffer) {
+        match self.ports.next(node, buffer) {
             Ok(Some(arrival)) => Ok(Some(self.renewed_first(arrival, buffer))),
             Ok(None) => Ok(None),
             Err(fault) => Err(fault),
         }
     }
 
-    fn next_soon(&mut self, buffer: &mut [u8]) -> Option<Arrival> {
+    fn next_soon(&mut self, node: &Node, buffer: &mut [u8]) -> Option<Arrival> {
         if let Some(arrival) = self.held.take(buffer) {
             return Some(arrival);
         }
-        match self.ports.next_soon(buffer) {
+        match self.ports.next_soon(node, buffer) {
             Some(arrival) => Some(self.renewed_first(arrival, buffer)),
             None => None,
         }

@@ -87,6 +87,13 @@ impl<W: Read + Write> Connection<W> {
         self.is_ready || self.is_done() || !self.stream.wants_octets()
     }
 
+    /// Returns whether octets wait to be written.
+    pub fn is_writing(&self) -> bool
+        ensures { IsTrue result ↔ ¬ (self.now.stream.queue.waiting ≡ []) }
+    {
+        self.stream.waits() > 0
+    }
+
     /// Returns whether the face of the connection must close: a read has failed, the octets are no
     /// packets, or the other end has ended its sending and nothing that waits will be written.
     pub fn is_done(&self) -> bool

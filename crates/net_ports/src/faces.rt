@@ -27,6 +27,15 @@ pub fn may_go_on(faces: &[ConnectedFace]) -> bool {
     faces.iter().any(|face| face.connection.may_go_on())
 }
 
+/// Returns whether the face is that of a connection that may go on, or whose octets wait to be
+/// written.
+pub fn is_busy(faces: &[ConnectedFace], face: u64) -> bool {
+    match faces.iter().find(|held| held.face == face) {
+        Some(held) => held.connection.may_go_on() || held.connection.is_writing(),
+        None => false,
+    }
+}
+
 /// Ends the connections that have been in the middle of a packet for `limit` milliseconds at the
 /// time `now`.
 pub fn check(faces: &mut [ConnectedFace], now: u64, limit: u64) {

@@ -2,6 +2,7 @@
 //! knows, and for each connection.
 #![tactic(auto)]
 
+mod face_holdings;
 mod faces;
 mod handshakes;
 mod head_first;

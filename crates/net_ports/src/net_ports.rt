@@ -6,12 +6,13 @@ ghost use Rattle.node_ports.specs.Ports.{LiesWithin, arrived};
 ghost use Rattle.node_ports.specs.Step.{Got, count_after, failures_in, one_more, step_of};
 
 use crate::faces::{ConnectedFace, check, may_go_on};
+use crate::face_holdings::FaceHoldings;
 use crate::handshakes;
 use crate::handshakes::{Handshake, add, end_late, next_done};
 use crate::sockets::{BindFault, Listen, Sockets};
 use crate::wire::Wire;
 use face_table::{Link, Met};
-use forwarder::{Event, Scope, Verdict};
+use forwarder::{Event, Node, Scope, Verdict};
 use info_rules::Rules;
 use ndn_streams::{Connection, PacketStream};
 use node_core::WrittenEvent;
@@ -129,15 +130,15 @@ impl<M: Moments> NetPorts<M> {
 
     /// Returns an arrival that is there, without waiting. Asks each source once, after the one that
     /// gave the last arrival.
-    fn ready(&mut self, buffer: &mut [u8]) -> Option<Arrival>
+    fn ready(&mut self, node: &Node, buffer: &mut [u8]) -> Option<Arrival>
         ensures fits { IfSome result (LiesWithin (length buffer.new)) }
         ensures works { self.new.udp.failures ≡ self.old.udp.failures }
     {
         if self.udp.is_due() {
-            return self.take_datagram(buffer);
+            return self.take_datagram(node, buffer);
         }
         if let Some((wire, link)) = self.arriving.take()
-            && let Some(arrival) = self.admit(wire, link)
+            && let Some(arrival) = self.admit(node, wire, link)
         {
             return Some(arrival);
         }
@@ -148,7 +149,7 @@ impl<M: Moments> NetPorts<M> {
             } else {
                 source + 1
             };
-            if let Some(arrival) = self.ask(source, buffer) {
+            if let Some(arrival) = self.ask(node, source, buffer) {
                 return Some(arrival);
             }
         }
@@ -156,18 +157,18 @@ impl<M: Moments> NetPorts<M> {
     }
 
     /// Returns the next arrival of one source, if it has one.
-    fn ask(&mut self, source: usize, buffer: &mut [u8]) -> Option<Arrival>
+    fn ask(&mut self, node: &Node, source: usize, buffer: &mut [u8]) -> Option<Arrival>
         ensures fits { IfSome result (LiesWithin (length buffer.new)) }
         ensures works { self.new.udp.failures ≡ self.old.udp.failures }
     {
         match source {
-            0 => self.take_datagram(buffer),
-            1 | 2 => self.accept(source == 1),
+            0 => self.take_datagram(node, buffer),
+            1 | 2 => self.accept(node, source == 1),
             3 => {
                 self.greet();
                 None
             }
-            4 => self.welcome(),
+            4 => self.welcome(node),
             _ => self.take_packet(source - LISTENERS, buffer),
         }
     }
@@ -175,7 +176,7 @@ impl<M: Moments> NetPorts<M> {
     /// Returns the next arrival due to a datagram. If a face closes for it, the connection of this
     /// face ends. A datagram for whose endpoint no place is left is dropped, and counted among those
     /// of strangers.
-    fn take_datagram(&mut self, buffer: &mut [u8]) -> Option<Arrival>
+    fn take_datagram(&mut self, node: &Node, buffer: &mut [u8]) -> Option<Arrival>
         ensures fits { IfSome result (LiesWithin (length buffer.new)) }
         ensures works { self.new.udp.failures ≡ self.old.udp.failures }
     {
@@ -183,7 +184,8 @@ impl<M: Moments> NetPorts<M> {
             return None;
         }
         let dropped = self.udp.strangers();
-        let arrival = self.udp.next_soon(buffer);
+        let holdings = FaceHoldings::of(node, &self.faces);
+        let arrival = self.udp.take(&holdings, buffer, true);
         match &arrival {
             Some(Event::FaceUp { face, .. }) if self.udp.link_of(*face).is_none() => {
                 self.udp.drop_waiting();
@@ -199,7 +201,7 @@ impl<M: Moments> NetPorts<M> {
 
     /// Accepts a connection, if one waits. Returns the arrival that opens its face, or that closes
     /// another face before.
-    fn accept(&mut self, is_tcp: bool) -> Option<Arrival>
+    fn accept(&mut self, node: &Node, is_tcp: bool) -> Option<Arrival>
         ensures fits { IfSome result (LiesWithin 0) }
         ensures works { self.new.udp.failures ≡ self.old.udp.failures }
     {
@@ -209,7 +211,7 @@ impl<M: Moments> NetPorts<M> {
             self.sockets.accept_unix(self.number)?
         };
         self.number = self.number.saturating_add(1);
-        self.admit(wire, link)
+        self.admit(node, wire, link)
     }
 
     /// Accepts a connection for WebSocket, if one waits, and begins its opening handshake.
@@ -229,22 +231,23 @@ impl<M: Moments> NetPorts<M> {
 
     /// Goes on with the opening handshakes. Returns the arrival that opens the face of a connection
     /// whose handshake is done, or that closes another face before.
-    fn welcome(&mut self) -> Option<Arrival>
+    fn welcome(&mut self, node: &Node) -> Option<Arrival>
         ensures fits { IfSome result (LiesWithin 0) }
         ensures works { self.new.udp.failures ≡ self.old.udp.failures }
     {
         let (wire, link) = next_done(&mut self.handshakes, self.alloc, &self.origins)?;
-        self.admit(wire, link)
+        self.admit(node, wire, link)
     }
 
     /// Gives a new connection a face. Returns the arrival that opens this face, or that closes
     /// another face before. Returns `None` if the connection is closed, since no place or no memory
     /// is left.
-    fn admit(&mut self, wire: Wire, link: Link) -> Option<Arrival>
+    fn admit(&mut self, node: &Node, wire: Wire, link: Link) -> Option<Arrival>
         ensures admits { IfSome result (Admits link) }
         ensures works { self.new.udp.failures ≡ self.old.udp.failures }
     {
-        let (now, met) = self.udp.meet(link);
+        let holdings = FaceHoldings::of(node, &self.faces);
+        let (now, met) = self.udp.meet(link, &holdings);
         match met {
             // A new connection has no face yet.
             Met::Face(_) => None,
@@ -354,7 +357,7 @@ impl<M: Moments> NetPorts<M> {
     }
 
     /// Returns an arrival that is there, without waiting.
-    fn take(&mut self, buffer: &mut [u8]) -> Option<Arrival>
+    fn take(&mut self, node: &Node, buffer: &mut [u8]) -> Option<Arrival>
         ensures fits { IfSome result (LiesWithin (length buffer.new)) }
         ensures works { self.new.udp.failures ≡ self.old.udp.failures }
     {
@@ -362,7 +365,7 @@ impl<M: Moments> NetPorts<M> {
             // If the system cannot tell, the sources that are known are asked.
             let _waited = self.wait(0);
         }
-        let arrival = self.ready(buffer)?;
+        let arrival = self.ready(node, buffer)?;
         self.given = self.given.saturating_add(1);
         Some(arrival)
     }
@@ -411,9 +414,9 @@ impl<M: Moments> Ports for NetPorts<M> {
 
     ghost stays = { λ p q steps h. refl };
 
-    fn next(&mut self, buffer: &mut [u8]) -> Result<Option<Arrival>, PortFault> {
+    fn next(&mut self, node: &Node, buffer: &mut [u8]) -> Result<Option<Arrival>, PortFault> {
         for _ in 0..u64::MAX {
-            if let Some(arrival) = self.take(buffer) {
+            if let Some(arrival) = self.take(node, buffer) {
                 return Ok(Some(arrival));
             }
             if !self.wait(LOOK_MILLISECONDS) {
@@ -423,12 +426,12 @@ impl<M: Moments> Ports for NetPorts<M> {
         Err(self.udp.fail())
     }
 
-    fn next_soon(&mut self, buffer: &mut [u8]) -> Option<Arrival> {
-        if let Some(arrival) = self.take(buffer) {
+    fn next_soon(&mut self, node: &Node, buffer: &mut [u8]) -> Option<Arrival> {
+        if let Some(arrival) = self.take(node, buffer) {
             return Some(arrival);
         }
         if self.wait(SOON_MILLISECONDS) {
-            self.ready(buffer)
+            self.ready(node, buffer)
         } else {
             None
         }

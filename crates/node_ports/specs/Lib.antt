@@ -1,4 +1,5 @@
 pub mod Step
+pub mod Holdings
 pub mod Ports
 pub mod Memory
 pub mod Journalled

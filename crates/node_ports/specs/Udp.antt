@@ -9,10 +9,9 @@ use Rattle.forwarder.specs.declared.event.Event.TheVariants.{Packet, FaceUp, Fac
 use Rattle.node_ports.specs.Ports.{Arrival}
 use Rattle.face_table.specs.declared.clients.Client.{Client}
 use Rattle.face_table.specs.declared.link.Link.TheVariants.{Udp}
-use Rattle.face_table.specs.declared.table.FaceTable.{FaceTable}
 use Rattle.face_table.specs.declared.table.Met.TheVariants.{Face, Opening, Closing}
 use Rattle.face_table.specs.Clients.{MayHear}
-use Rattle.face_table.specs.Table.{Meets, place_among, with_clients}
+use Rattle.face_table.specs.Table.{Meets, TableState, idle_after, place_among, table_of, with_clients}
 use Rattle.node_ports.specs.Step.{one_more}
 
 -- a datagram that was received, but whose arrival was not yet returned
@@ -24,7 +23,7 @@ pub record Datagram : Type 0 where
 
 pub record UdpState : Type 0 where
   -- the endpoints with faces
-  pub known : FaceTable
+  pub known : TableState
   -- the number of peers' faces that are already opened
   pub opened : ℕ
   -- the faces of the first `local` peers are Local, and the faces of the other peers are Far
@@ -45,13 +44,7 @@ pub record UdpState : Type 0 where
 -- endpoints that are not peers are accepted
 abbrev pub bound_to : List SocketAddr → ℕ → ℕ → UdpState
 bound_to peers local told = record {
-  known = record {
-    peers = peers;
-    clients = record { rows = []; idle = None };
-    spare = 0;
-    next = length peers + 1;
-    refused = None;
-  };
+  known = table_of peers;
   opened = 0;
   local = local;
   waiting = None;
@@ -63,9 +56,7 @@ bound_to peers local told = record {
 
 -- the same ports, where the idle time after which faces close is set to `idle`
 abbrev pub closes_after : ℕ → UdpState → UdpState
-closes_after idle ports = record ports {
-  known = record ports.known { clients = record ports.known.clients { idle = Some idle } };
-}
+closes_after idle ports = record ports { known = idle_after idle ports.known }
 
 abbrev pub scope_of_face : ℕ → ℕ → Scope
 scope_of_face local face = if nat_le face local then Local else Far
@@ -123,31 +114,34 @@ kept endpoint face datagram = record {
   octets = take FRAME_ROOM datagram;
 }
 
--- What is done with a datagram from this endpoint, as `Meets` states. `Packet`: the datagram
--- arrives on the face of the endpoint, truncated to the length of the buffer. `FaceUp`: the
--- datagram waits while a face opens. `FaceDown`: the datagram waits while the face of a client
--- closes. The client whose face closes may be this endpoint.
-abbrev pub Brings : UdpState → UdpState → SocketAddr → List ℕ → List ℕ → Arrival → Type 0
-Brings before after endpoint datagram buffer (Packet face now len) =
-    (known : FaceTable) × Meets before.known known (Udp endpoint) now (Face face)
+-- What is done with a datagram from this endpoint, as `Meets` states. The node has something for the
+-- faces with the property `Holds`. `Packet`: the datagram arrives on the face of the endpoint,
+-- truncated to the length of the buffer. `FaceUp`: the datagram waits while a face opens.
+-- `FaceDown`: the datagram waits while the face of a client closes. The client whose face closes
+-- may be this endpoint.
+abbrev pub Brings : (ℕ → Type 0) → UdpState → UdpState → SocketAddr → List ℕ → List ℕ → Arrival
+    → Type 0
+Brings Holds before after endpoint datagram buffer (Packet face now len) =
+    (known : TableState) × Meets before.known known (Udp endpoint) now Holds (Face face)
     × (take len buffer ≡ take (length buffer) datagram)
     × (after ≡ record before { known = known; waiting = None; told = now })
-Brings before after endpoint datagram buffer (FaceUp face scope now) =
-    (known : FaceTable) × Meets before.known known (Udp endpoint) now (Opening face) × (scope ≡ Far)
+Brings Holds before after endpoint datagram buffer (FaceUp face scope now) =
+    (known : TableState) × Meets before.known known (Udp endpoint) now Holds (Opening face)
+    × (scope ≡ Far)
     × (after ≡ record before {
       known = known;
       waiting = Some (kept endpoint (Some face) datagram);
       told = now;
     })
-Brings before after endpoint datagram buffer (FaceDown face now) =
-    (known : FaceTable) × Meets before.known known (Udp endpoint) now (Closing face)
+Brings Holds before after endpoint datagram buffer (FaceDown face now) =
+    (known : TableState) × Meets before.known known (Udp endpoint) now Holds (Closing face)
     × (after ≡ record before {
       known = known;
       waiting = Some (kept endpoint None datagram);
       told = now;
     })
-Brings before after endpoint datagram buffer (Tick now) = ⊥
-Brings before after endpoint datagram buffer (NewRules renewal now) = ⊥
+Brings Holds before after endpoint datagram buffer (Tick now) = ⊥
+Brings Holds before after endpoint datagram buffer (NewRules renewal now) = ⊥
 
 -- every peer's face is opened, and no datagram waits
 abbrev pub Listens : UdpState → Type 0
@@ -170,11 +164,11 @@ pub record DropsStrangers (before after : UdpState) : Type 0 where
 -- Every peer's face was opened, and no datagram waited. A datagram from an accepted endpoint was
 -- received into the start of the buffer and is handled (`Brings`). Datagrams from endpoints that
 -- are not accepted may have been dropped before.
-abbrev pub GivesReceived : UdpState → UdpState → List ℕ → Arrival → Type 0
-GivesReceived before after buffer arrival =
+abbrev pub GivesReceived : (ℕ → Type 0) → UdpState → UdpState → List ℕ → Arrival → Type 0
+GivesReceived Holds before after buffer arrival =
     Listens before × ((mid : UdpState) × (endpoint : SocketAddr) × (len : ℕ)
     × DropsStrangers before mid × IsAccepted mid endpoint
-    × Brings mid after endpoint (take len buffer) buffer arrival)
+    × Brings Holds mid after endpoint (take len buffer) buffer arrival)
 
 -- Every peer's face was opened, no datagram waited, and receiving failed. The failure was counted.
 -- Datagrams from endpoints that are not accepted may have been dropped before.
@@ -185,16 +179,17 @@ FailsReceiving before after =
 
 -- every peer's face was opened, and the datagram that waited while a face closed is handled
 -- (`Brings`)
-abbrev pub BringsAfterClosing : UdpState → UdpState → List ℕ → Arrival → Type 0
-BringsAfterClosing before after buffer arrival =
+abbrev pub BringsAfterClosing : (ℕ → Type 0) → UdpState → UdpState → List ℕ → Arrival → Type 0
+BringsAfterClosing Holds before after buffer arrival =
     (endpoint : SocketAddr) × (octets : List ℕ) × HasOpened before
     × (before.waiting ≡ Some (record { endpoint = endpoint; face = None; octets = octets }))
-    × Brings before after endpoint octets buffer arrival
+    × Brings Holds before after endpoint octets buffer arrival
 
 -- The ports return this arrival, and `after` is their state afterwards. The arrival opens the face
 -- of a peer, or is due to a datagram that waited or was received.
-abbrev pub UdpGives : UdpState → UdpState → List ℕ → Arrival → Type 0
-UdpGives before after buffer arrival =
+abbrev pub UdpGives : (ℕ → Type 0) → UdpState → UdpState → List ℕ → Arrival → Type 0
+UdpGives Holds before after buffer arrival =
     OpensPeer before after arrival
     ⊎ (GivesWaiting before after buffer arrival
-    ⊎ (BringsAfterClosing before after buffer arrival ⊎ GivesReceived before after buffer arrival))
+    ⊎ (BringsAfterClosing Holds before after buffer arrival
+    ⊎ GivesReceived Holds before after buffer arrival))

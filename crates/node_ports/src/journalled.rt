@@ -3,7 +3,7 @@ ghost use Rattle.std.specs.Prelude.{◌≡◌};
 
 use crate::ports::{Arrival, PortFault, Ports};
 use crate::serving::Turn;
-use forwarder::Verdict;
+use forwarder::{Node, Verdict};
 use info_rules::Rules;
 use journal::{JournalFile, append_event};
 use node_core::WrittenEvent;
@@ -77,12 +77,12 @@ impl<P: Ports + Drop, F: JournalFile + Drop> Ports for JournalledPorts<P, F> {
 
     ghost stays = { λ p q steps h. refl };
 
-    fn next(&mut self, buffer: &mut [u8]) -> Result<Option<Arrival>, PortFault> {
-        self.ports.next(buffer)
+    fn next(&mut self, node: &Node, buffer: &mut [u8]) -> Result<Option<Arrival>, PortFault> {
+        self.ports.next(node, buffer)
     }
 
-    fn next_soon(&mut self, buffer: &mut [u8]) -> Option<Arrival> {
-        self.ports.next_soon(buffer)
+    fn next_soon(&mut self, node: &Node, buffer: &mut [u8]) -> Option<Arrival> {
+        self.ports.next_soon(node, buffer)
     }
 
     fn keeps_journal(&self) -> bool {

@@ -6,7 +6,7 @@ ghost use Rattle.node_ports.specs.Step.{FailedNext, FailedSend, Gave, one_more, 
 use crate::ports::{Arrival, PortFault, Ports, put_front};
 use crate::renewal::Renewal;
 use crate::serving::Turn;
-use forwarder::{Event, Outbox, Verdict};
+use forwarder::{Event, Node, Outbox, Verdict};
 use info_rules::Rules;
 use node_core::WrittenEvent;
 use std::alloc::Global;
@@ -140,7 +140,7 @@ impl Ports for MemoryPorts {
 
     ghost stays = { λ p q steps h. refl };
 
-    fn next(&mut self, buffer: &mut [u8]) -> Result<Option<Arrival>, PortFault>
+    fn next(&mut self, _node: &Node, buffer: &mut [u8]) -> Result<Option<Arrival>, PortFault>
         ensures fits { IfOk result
             (λ arrival. IfSome arrival (LiesWithin (length buffer.new))) }
         ensures came { IfOk result (λ arrival. AreDoneInMemory self.old.trace
@@ -162,7 +162,7 @@ impl Ports for MemoryPorts {
         }
     }
 
-    fn next_soon(&mut self, _buffer: &mut [u8]) -> Option<Arrival> {
+    fn next_soon(&mut self, _node: &Node, _buffer: &mut [u8]) -> Option<Arrival> {
         None
     }
 

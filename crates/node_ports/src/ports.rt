@@ -10,7 +10,7 @@ use crate::renewal::Renewal;
 use crate::serving::Turn;
 use crate::udp::SOON_MILLISECONDS;
 use face_table::GIVE_WAY_MILLISECONDS;
-use forwarder::{Event, Verdict};
+use forwarder::{Event, Node, Verdict};
 use info_rules::Rules;
 use ndn_packets::MAX_FRAME;
 use node_core::WrittenEvent;
@@ -22,8 +22,8 @@ use thiserror::Error;
 pub const FRAME_ROOM: usize = MAX_FRAME + 1;
 
 /// Law: `FRAME_ROOM` is 9,001, one more than the length in octets of the longest packet that a node
-/// accepts. A client that has been silent for 10 seconds may lose its face. `next_soon` waits for a
-/// millisecond at a UDP port. An answer to a client is waited for during 4 seconds.
+/// accepts. A client may lose its face after 10 seconds of silence, also if the node has something
+/// for the face. `next_soon` waits for a millisecond at a UDP port. An answer to a client is waited for during 4 seconds.
 pub fn ports_are_as_promised()
     ensures room { FRAME_ROOM ≡ 9001 }
     ensures gives_way { GIVE_WAY_MILLISECONDS ≡ 10000 }
@@ -57,8 +57,9 @@ pub trait Ports {
     ghost failures: { Self → ℕ };
 
     /// Returns the next arrival, or `None` if there are no more arrivals. Copies the octets of a
-    /// packet to the start of the buffer. A packet longer than the buffer is truncated.
-    fn next(&mut self, buffer: &mut [u8]) -> Result<Option<Arrival>, PortFault>
+    /// packet to the start of the buffer. A packet longer than the buffer is truncated. `node` is
+    /// the node that the arrival is for: a port that closes faces asks it what it has for them.
+    fn next(&mut self, node: &Node, buffer: &mut [u8]) -> Result<Option<Arrival>, PortFault>
         ensures fits { IfOk result
             (λ arrival. IfSome arrival (LiesWithin (length buffer.new))) }
         ensures came { IfOk result (λ arrival. does self.old
@@ -68,7 +69,7 @@ pub trait Ports {
     /// Returns the next arrival, as `next` does, if an arrival is available within some
     /// milliseconds. Returns `None` otherwise. A port that cannot limit its waiting to some
     /// milliseconds may always return `None`.
-    fn next_soon(&mut self, buffer: &mut [u8]) -> Option<Arrival>
+    fn next_soon(&mut self, node: &Node, buffer: &mut [u8]) -> Option<Arrival>
         ensures fits { IfSome result (LiesWithin (length buffer.new)) }
         ensures came { IfSome result (λ arrival. does self.old
             (Got (length buffer.new) (arrived arrival buffer.new) ∷ []) self.new) }

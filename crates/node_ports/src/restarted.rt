@@ -5,7 +5,7 @@ ghost use Rattle.node_ports.specs.Ports.{plain_arrival};
 use crate::memory::{OwnedArrival, put_event};
 use crate::ports::{Arrival, PortFault, Ports};
 use crate::serving::Turn;
-use forwarder::Verdict;
+use forwarder::{Node, Verdict};
 use info_rules::Rules;
 use node_core::WrittenEvent;
 use std::collections::VecDeque;
@@ -71,17 +71,17 @@ impl<P: Ports + Drop> Ports for RestartedPorts<P> {
     ghost stays = { λ p q steps. restarted_stays P.does P.has_journal P.stays p.ports q.ports
         (map plain_arrival p.first.items) (map plain_arrival q.first.items) steps };
 
-    fn next(&mut self, buffer: &mut [u8]) -> Result<Option<Arrival>, PortFault> {
+    fn next(&mut self, node: &Node, buffer: &mut [u8]) -> Result<Option<Arrival>, PortFault> {
         match self.first.pop_front() {
             Some(event) => Ok(Some(put_event(event, buffer))),
-            None => self.ports.next(buffer),
+            None => self.ports.next(node, buffer),
         }
     }
 
-    fn next_soon(&mut self, buffer: &mut [u8]) -> Option<Arrival> {
+    fn next_soon(&mut self, node: &Node, buffer: &mut [u8]) -> Option<Arrival> {
         match self.first.pop_front() {
             Some(event) => Some(put_event(event, buffer)),
-            None => self.ports.next_soon(buffer),
+            None => self.ports.next_soon(node, buffer),
         }
     }
 

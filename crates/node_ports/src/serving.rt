@@ -143,7 +143,7 @@ pub fn serve_turn_in<P: Ports>(
         × (node.new ≡ node.old) × (outbox.new ≡ [])) }
 {
     outbox.clear();
-    let Ok(arrival) = ports.next(buffer) else {
+    let Ok(arrival) = ports.next(node, buffer) else {
         return Err(ServeFault::Next { after: 0 });
     };
     Ok(handle(node, ports, arrival, buffer, outbox))
@@ -165,7 +165,7 @@ pub fn serve_turn_soon<P: Ports>(
         × (outbox.new ≡ []) }
 {
     outbox.clear();
-    let arrival = ports.next_soon(buffer)?;
+    let arrival = ports.next_soon(node, buffer)?;
     Some(handle(node, ports, Some(arrival), buffer, outbox))
 }
 

@@ -4,17 +4,18 @@ ghost use Rattle.std.specs.Option.{option_or};
 ghost use Rattle.std.specs.declared.net.socket_addr.SocketAddr.{SocketAddr};
 ghost use Rattle.node_ports.specs.Endpoints.{AreLocalhostAt, IsLocalhostAt};
 ghost use Rattle.face_table.specs.Clients.{IsNoClient, MayHear};
-ghost use Rattle.face_table.specs.Table.{Leaves, Meets, endpoint_at, link_at, with_clients};
+ghost use Rattle.face_table.specs.Table.{Leaves, Meets, TableState, endpoint_at, link_at, with_clients};
 ghost use Rattle.face_table.specs.declared.clients.Client.{Client};
-ghost use Rattle.face_table.specs.declared.table.FaceTable.{FaceTable};
+ghost use Rattle.node_ports.specs.Holdings.{NodeHolds};
 ghost use Rattle.node_ports.specs.Ports.{Arrival, LiesWithin, arrived};
 ghost use Rattle.node_ports.specs.Step.{Got, count_after, failures_in, one_more, step_of};
 ghost use Rattle.node_ports.specs.Udp.{Brings, DropsStrangers, FailsReceiving, GivesWaiting, BringsAfterClosing, HasOpened, IsAccepted, Listens, OpensPeer, UdpGives, bound_to, closes_after, kept, waiting_at};
 
 use crate::ports::{Arrival, FRAME_ROOM, PortFault, Ports, put_front};
 use crate::serving::Turn;
-use face_table::{FaceTable, Link, MAX_FACES, Met};
-use forwarder::{Event, Scope, Verdict};
+use crate::node_holdings::NodeHoldings;
+use face_table::{FaceTable, Holdings, Link, MAX_FACES, Met};
+use forwarder::{Event, Node, Scope, Verdict};
 use info_rules::Rules;
 use node_core::WrittenEvent;
 use std::marker::Model;
@@ -46,7 +47,8 @@ pub trait Moments: Drop {
 /// greatest u64. The arrivals never end.
 ///
 /// After a call of `close_after`, the faces of idle clients close, and the face of a client may
-/// close to make room for an unknown endpoint. A peer's face never closes. After a call of
+/// close to make room for an unknown endpoint: at once if the node has nothing for it. A peer's face
+/// never closes. After a call of
 /// `ignore_strangers`, only datagrams from peers are accepted.
 #[derive(Drop)]
 pub struct UdpPorts<M: Moments> {
@@ -161,9 +163,9 @@ impl<M: Moments> UdpPorts<M> {
     }
 
     /// From now on, a client's face closes if nothing has arrived on it for `idle` milliseconds. If
-    /// a datagram arrives from an unknown endpoint while 64 endpoints are known, the face of the
-    /// client that has been silent longest closes, provided that this client has been silent for at
-    /// least 10,000 milliseconds.
+    /// a datagram arrives from an unknown endpoint while 64 endpoints are known, a client's face
+    /// closes for which the node has nothing, or whose client has been silent for at least 10,000
+    /// milliseconds: of these, that of the client that has been silent longest.
     ///
     /// A face closes only when a datagram has arrived from some endpoint. The face closes before
     /// that datagram is handled. At most one face closes in each turn. If the previous turn opened
@@ -171,7 +173,7 @@ impl<M: Moments> UdpPorts<M> {
     pub fn close_after(&mut self, idle: u64)
         ensures { self.new ≡ closes_after idle self.old }
     {
-        self.known.clients.close_after(idle);
+        self.known.close_after(idle);
     }
 
     /// From now on, each datagram that is received from an endpoint that is not a peer is dropped
@@ -222,7 +224,7 @@ impl<M: Moments> UdpPorts<M> {
     pub fn share_with_connections(&mut self, spare: usize) -> bool
         ensures { self.new ≡ record self.old { known = record self.old.known { spare = spare } } }
     {
-        self.known.spare = spare;
+        self.known.leave_spare(spare);
         self.socket.set_nonblocking(true).is_ok()
     }
 
@@ -247,17 +249,18 @@ impl<M: Moments> UdpPorts<M> {
     pub fn is_due(&self) -> bool
         ensures { result ≡ false → Listens self.now }
     {
-        self.opened < self.known.peers.len() || self.waiting.is_some()
+        self.opened < self.known.peers().len() || self.waiting.is_some()
     }
 
     /// Decides what to do with what arrives from a link now, for ports that have further links.
-    /// Returns the present time and the decision.
-    pub fn meet(&mut self, link: Link) -> (u64, Met)
-        ensures { (known : FaceTable) × Meets self.old.known known link result.0 result.1
+    /// `holdings` is what the node has for its faces. Returns the present time and the decision.
+    pub fn meet<H: Holdings>(&mut self, link: Link, holdings: &H) -> (u64, Met)
+        ensures { (known : TableState)
+            × Meets self.old.known known link result.0 (H.Holds holdings.now) result.1
             × (self.new ≡ record self.old { known = known; told = result.0 }) }
     {
         let now = self.now();
-        (now, self.known.meet(link, now))
+        (now, self.known.meet(link, now, holdings))
     }
 
     /// Notes that something arrived from a link now, if the link is a client's. Returns the present
@@ -277,7 +280,7 @@ impl<M: Moments> UdpPorts<M> {
     /// Removes the client with this link, whose connection has ended, and returns its face. Returns
     /// `None` if no client has this link.
     pub fn leave(&mut self, link: Link) -> Option<u64>
-        ensures left { IfSome result (λ face. (known : FaceTable)
+        ensures left { IfSome result (λ face. (known : TableState)
             × Leaves self.old.known known link face
             × (self.new ≡ record self.old { known = known })) }
         ensures none { result ≡ None → IsNoClient self.old.known.clients.rows link
@@ -298,7 +301,7 @@ impl<M: Moments> UdpPorts<M> {
     fn accepts(&self, endpoint: SocketAddr) -> bool
         ensures { IsTrue result ↔ IsAccepted self.now endpoint }
     {
-        self.accepts_strangers || self.known.peers.place_of(endpoint).is_some()
+        self.accepts_strangers || self.known.peers().place_of(endpoint).is_some()
     }
 
     /// Counts a dropped datagram from an endpoint that is not a peer.
@@ -348,15 +351,21 @@ impl<M: Moments> UdpPorts<M> {
 
     /// Handles the datagram that waited while a face closed. Returns the next arrival: the datagram
     /// on its face, or the opening or closing of a face.
-    fn go_on(&mut self, endpoint: SocketAddr, buffer: &mut [u8]) -> Arrival
+    fn go_on<H: Holdings>(
+        &mut self,
+        endpoint: SocketAddr,
+        holdings: &H,
+        buffer: &mut [u8],
+    ) -> Arrival
         requires opened { HasOpened self.old }
         requires waiting { (octets : List ℕ) × (self.old.waiting
             ≡ Some (record { endpoint = endpoint; face = None; octets = octets })) }
         ensures fits { LiesWithin (length buffer.new) result }
-        ensures gives { BringsAfterClosing self.old self.new buffer.new result }
+        ensures gives
+            { BringsAfterClosing (H.Holds holdings.now) self.old self.new buffer.new result }
     {
         let now = self.now();
-        match self.known.meet(Link::Udp(endpoint), now) {
+        match self.known.meet(Link::Udp(endpoint), now, holdings) {
             Met::Face(face) => {
                 let len = put_front(&self.octets[..self.len], buffer);
                 self.waiting = None;
@@ -391,7 +400,7 @@ impl<M: Moments> UdpPorts<M> {
         requires { self.old.opened < length self.old.known.peers }
         ensures { OpensPeer self.old self.new result }
     {
-        let known = self.known.peers.len();
+        let known = self.known.peers().len();
         self.opened += 1;
         let face = self.opened as u64;
         let scope = if face <= self.local {
@@ -409,14 +418,21 @@ impl<M: Moments> UdpPorts<M> {
     /// Returns the arrival for a datagram from this endpoint. The datagram is the first `len`
     /// octets of the buffer. Precondition: all peers' faces are opened, and no other datagram
     /// waits.
-    fn arrive(&mut self, endpoint: SocketAddr, len: usize, buffer: &[u8]) -> Arrival
+    fn arrive<H: Holdings>(
+        &mut self,
+        endpoint: SocketAddr,
+        len: usize,
+        holdings: &H,
+        buffer: &[u8],
+    ) -> Arrival
         requires listens { Listens self.old }
         requires fits { len ≤ length buffer.now }
         ensures fits { LiesWithin (length buffer.now) result }
-        ensures brings { Brings self.old self.new endpoint (take len buffer.now) buffer.now result }
+        ensures brings { Brings (H.Holds holdings.now) self.old self.new endpoint
+            (take len buffer.now) buffer.now result }
     {
         let now = self.now();
-        match self.known.meet(Link::Udp(endpoint), now) {
+        match self.known.meet(Link::Udp(endpoint), now, holdings) {
             Met::Face(face) => Event::Packet {
                 face,
                 now,
@@ -458,10 +474,16 @@ impl<M: Moments> UdpPorts<M> {
     /// not accepted is dropped and counted. After a counted datagram, returns `None` if `is_brief`
     /// is true, and receives the next datagram if `is_brief` is false. Precondition: all peers'
     /// faces are opened, and no datagram waits for the next turn.
-    fn receive(&mut self, buffer: &mut [u8], is_brief: bool) -> Option<Arrival>
+    fn receive<H: Holdings>(
+        &mut self,
+        holdings: &H,
+        buffer: &mut [u8],
+        is_brief: bool,
+    ) -> Option<Arrival>
         requires { Listens self.old }
         ensures fits { IfSome result (LiesWithin (length buffer.new)) }
-        ensures gives { IfSome result (UdpGives self.old self.new buffer.new) }
+        ensures gives
+            { IfSome result (UdpGives (H.Holds holdings.now) self.old self.new buffer.new) }
         ensures none { result ≡ None → DropsStrangers self.old self.new }
         ensures works { self.new.failures ≡ self.old.failures }
     {
@@ -471,7 +493,7 @@ impl<M: Moments> UdpPorts<M> {
         for _ in 0..u64::MAX {
             let (len, from) = self.receive_one(buffer)?;
             if self.accepts(from) {
-                return Some(self.arrive(from, len, buffer));
+                return Some(self.arrive(from, len, holdings, buffer));
             }
             self.count_stranger();
             if is_brief {
@@ -491,22 +513,31 @@ impl<M: Moments> UdpPorts<M> {
     }
 
     /// Returns the next arrival: the opening of a peer's face, or an arrival due to a datagram that
-    /// waited or is received now. Returns `None` if `receive` returns `None`.
-    fn take(&mut self, buffer: &mut [u8], is_brief: bool) -> Option<Arrival>
+    /// waited or is received now. `holdings` is what the node has for its faces. If `is_brief` is
+    /// true, waits as `next_soon` does, and otherwise as `next` does. Returns `None` if the socket
+    /// gives no datagram, or the socket's waiting time cannot be set, or, if `is_brief` is true,
+    /// after a datagram that was dropped.
+    pub fn take<H: Holdings>(
+        &mut self,
+        holdings: &H,
+        buffer: &mut [u8],
+        is_brief: bool,
+    ) -> Option<Arrival>
         ensures fits { IfSome result (LiesWithin (length buffer.new)) }
-        ensures gives { IfSome result (UdpGives self.old self.new buffer.new) }
+        ensures gives
+            { IfSome result (UdpGives (H.Holds holdings.now) self.old self.new buffer.new) }
         ensures none { result ≡ None → Listens self.old × DropsStrangers self.old self.new }
         ensures works { self.new.failures ≡ self.old.failures }
     {
-        if self.opened < self.known.peers.len() {
+        if self.opened < self.known.peers().len() {
             return Some(self.open());
         }
         let Some(waiting) = self.waiting else {
-            return self.receive(buffer, is_brief);
+            return self.receive(holdings, buffer, is_brief);
         };
         match waiting.face {
             Some(face) => Some(self.give_waiting(waiting.endpoint, face, buffer)),
-            None => Some(self.go_on(waiting.endpoint, buffer)),
+            None => Some(self.go_on(waiting.endpoint, holdings, buffer)),
         }
     }
 }
@@ -532,30 +563,30 @@ impl<M: Moments> Ports for UdpPorts<M> {
 
     ghost stays = { λ u v steps h. refl };
 
-    fn next(&mut self, buffer: &mut [u8]) -> Result<Option<Arrival>, PortFault>
+    fn next(&mut self, node: &Node, buffer: &mut [u8]) -> Result<Option<Arrival>, PortFault>
         ensures fits { IfOk result
             (λ arrival. IfSome arrival (LiesWithin (length buffer.new))) }
         ensures came { IfOk result (λ arrival. self.new.failures ≡ count_after self.old.failures
             (failures_in (step_of (length buffer.new) arrival buffer.new ∷ []))) }
         ensures gives { IfOk result (λ given. (arrival : Arrival) × (given ≡ Some arrival)
-            × UdpGives self.old self.new buffer.new arrival) }
+            × UdpGives (NodeHolds node.now) self.old self.new buffer.new arrival) }
         ensures failed { OnErr result (FailsReceiving self.old self.new) }
     {
-        match self.take(buffer, false) {
+        match self.take(&NodeHoldings::of(node), buffer, false) {
             Some(arrival) => Ok(Some(arrival)),
             None => Err(self.fail()),
         }
     }
 
-    fn next_soon(&mut self, buffer: &mut [u8]) -> Option<Arrival>
+    fn next_soon(&mut self, node: &Node, buffer: &mut [u8]) -> Option<Arrival>
         ensures fits { IfSome result (LiesWithin (length buffer.new)) }
         ensures came { IfSome result (λ arrival. self.new.failures ≡ count_after self.old.failures
             (failures_in (Got (length buffer.new) (arrived arrival buffer.new) ∷ []))) }
-        ensures gives { IfSome result (UdpGives self.old self.new buffer.new) }
+        ensures gives { IfSome result (UdpGives (NodeHolds node.now) self.old self.new buffer.new) }
         ensures rests { result ≡ None → self.new.failures ≡ self.old.failures }
         ensures none { result ≡ None → Listens self.old × DropsStrangers self.old self.new }
     {
-        self.take(buffer, true)
+        self.take(&NodeHoldings::of(node), buffer, true)
     }
 
     fn keeps_journal(&self) -> bool {

@@ -2,8 +2,8 @@
 //! endpoint is an address and a port. A stranger is an endpoint that is not a peer.
 
 use super::udp::{
-    Moving, bound_socket, brings_face, brings_packet, free_port, hears_octets, moving_ports, opens,
-    port_of,
+    Moving, bound_socket, brings_face, brings_packet, free_port, hears_octets, moving_ports, next_of,
+    opens, port_of,
 };
 use node_ports::{Ports, UdpPorts};
 use std::net::{Ipv4Addr, Ipv6Addr, Net, SocketAddr, UdpSocket};
@@ -136,7 +136,7 @@ fn ignores_stranger(
     known.send_to(b"333", listen).ok()?;
     let heard = brings_packet(ports, 1, 2, 3) && ports.strangers() == 2;
     stranger.send_to(b"4444", listen).ok()?;
-    let nothing = ports.next_soon(&mut [0; 100]).is_none() && ports.strangers() == 3;
+    let nothing = next_of(ports, true).is_none() && ports.strangers() == 3;
     known.send_to(b"55555", listen).ok()?;
     Some(opened && heard && nothing && brings_packet(ports, 1, 3, 5))
 }

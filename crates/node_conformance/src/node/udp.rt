@@ -2,10 +2,11 @@
 
 use super::octets::octets_of;
 use super::on_node;
+use face_table::Holdings;
 use ndn_packets::PacketFault;
 use node_core::{DropReason, Event, Node, Outbox, Scope, Verdict};
 use node_ports::{
-    FRAME_ROOM, Moments, Ports, Served, Turn, UdpPorts, receive_one, send_one, serve, serve_turn,
+    Arrival, FRAME_ROOM, Moments, Ports, Served, Turn, UdpPorts, receive_one, send_one, serve, serve_turn,
     serve_turn_soon,
 };
 use std::alloc::Global;
@@ -383,11 +384,30 @@ fn udp_port_taken(rt: HostRuntime) {
     assert!(rt; is_taken(&rt) == Some(true));
 }
 
+/// A node that has something for each face.
+struct Everything;
+
+impl Holdings for Everything {
+    ghost use Rattle.std.specs.Prelude.{⊤};
+
+    ghost Holds = { λ node face. ⊤ };
+
+    fn holds(&self, _face: u64) -> bool {
+        true
+    }
+}
+
+/// Returns the next arrival at ports of a node that has something for each face. If `is_brief` is
+/// true, does not wait for it.
+pub fn next_of<M: Moments>(ports: &mut UdpPorts<M>, is_brief: bool) -> Option<Arrival> {
+    ports.take(&Everything, &mut [0; 100], is_brief)
+}
+
 /// Returns whether the next arrival opens this Far face at this moment.
 pub fn brings_face<M: Moments>(ports: &mut UdpPorts<M>, opened: u64, at: u64) -> bool {
     matches!(
-        ports.next(&mut [0; 100]),
-        Ok(Some(Event::FaceUp { face, scope: Scope::Far, now })) if face == opened && now == at
+        next_of(ports, false),
+        Some(Event::FaceUp { face, scope: Scope::Far, now }) if face == opened && now == at
     )
 }
 
@@ -399,8 +419,8 @@ pub fn brings_packet<M: Moments>(
     count: usize,
 ) -> bool {
     matches!(
-        ports.next(&mut [0; 100]),
-        Ok(Some(Event::Packet { face, now, octets })) if face == from && now == at && octets == count
+        next_of(ports, false),
+        Some(Event::Packet { face, now, octets }) if face == from && now == at && octets == count
     )
 }
 
@@ -482,25 +502,34 @@ fn udp_hears_loopback_alone(rt: HostRuntime) {
 /// Returns whether the next arrival closes this face at this moment.
 fn brings_end<M: Moments>(ports: &mut UdpPorts<M>, closed: u64, at: u64) -> bool {
     matches!(
-        ports.next(&mut [0; 100]),
-        Ok(Some(Event::FaceDown { face, now })) if face == closed && now == at
+        next_of(ports, false),
+        Some(Event::FaceDown { face, now }) if face == closed && now == at
     )
 }
 
-/// Lets 200 clients send a packet, one after the other. Each client after the first sends its
-/// packet when the face of the previous client has been silent for 600 seconds and must close.
-/// Returns the number of clients that are answered.
+/// When clients send their packets.
+#[derive(Clone, Copy)]
+struct Pace {
+    /// The time between two clients, in milliseconds.
+    between: u64,
+    /// The number of clients whose faces open before any face closes.
+    places: u64,
+}
+
+/// Lets 200 clients send a packet, one after the other, at this pace. Returns the number of clients
+/// that are answered: within two turns while places are left, and within three after that.
 fn answered_at(
     rt: &(impl AllocGlobal + Net),
     node: &mut Node,
     ports: &mut UdpPorts<Handed<'_>>,
     listen: u16,
     moment: &Cell<u64>,
+    pace: Pace,
 ) -> u64 {
     let mut answered = 0u64;
     for client in 0..200u64 {
-        moment.set(client.saturating_mul(600_000));
-        let turns = if client == 0 { 2 } else { 3 };
+        moment.set(client.saturating_mul(pace.between));
+        let turns = if client < pace.places { 2 } else { 3 };
         if answers_client(rt, node, ports, listen, turns) == Some(true) {
             answered = answered.saturating_add(1);
         }
@@ -510,39 +539,60 @@ fn answered_at(
 
 /// Returns what `answered_at` returns for a node at new ports that close a face after 600 seconds
 /// of silence.
-fn answered_by(rt: &(impl AllocGlobal + Net), node: &mut Node, moment: &Cell<u64>) -> Option<u64> {
+fn answered_by(
+    rt: &(impl AllocGlobal + Net),
+    node: &mut Node,
+    moment: &Cell<u64>,
+    pace: Pace,
+) -> Option<u64> {
     let listen = free_port(rt)?;
     let mut ports = handed_ports(rt, listen, moment)?;
     ports.close_after(600_000);
-    Some(answered_at(rt, node, &mut ports, listen, moment))
+    Some(answered_at(rt, node, &mut ports, listen, moment, pace))
 }
 
-/// Returns whether `answered_by` returns this number of clients for a node.
+/// Returns whether a node answers all 200 clients at this pace.
 fn node_answers(
     rt: &(impl AllocGlobal + Net),
     node: &mut Node,
     moment: &Cell<u64>,
-    clients: u64,
+    pace: Pace,
 ) -> Option<bool> {
-    Some(answered_by(rt, node, moment)? == clients)
+    Some(answered_by(rt, node, moment, pace)? == 200)
 }
 
 /// Returns what `node_answers` returns for a new node.
 fn answers_clients(
     rt: &(impl AllocGlobal + Net),
     moment: &Cell<u64>,
-    clients: u64,
+    pace: Pace,
 ) -> Option<bool> {
     on_node(
         rt.alloc(),
-        &|_, node| node_answers(rt, node, moment, clients),
+        &|_, node| node_answers(rt, node, moment, pace),
     )
 }
 
-/// Each of 200 clients gets a face, which closes before the face of the next client opens.
+/// Each of 200 clients gets a face, which closes after 600 seconds, before the face of the next
+/// client opens.
 #[test]
 fn udp_many_clients(rt: HostRuntime) {
-    assert!(rt; answers_clients(&rt, &Cell::new(0), 200) == Some(true));
+    let pace = Pace {
+        between: 600_000,
+        places: 1,
+    };
+    assert!(rt; answers_clients(&rt, &Cell::new(0), pace) == Some(true));
+}
+
+/// Each of 200 clients that ask in the same millisecond gets a face: since the others' Interests
+/// are answered, the node has nothing for their faces, and one of them closes at once.
+#[test]
+fn udp_many_clients_at_once(rt: HostRuntime) {
+    let pace = Pace {
+        between: 0,
+        places: 64,
+    };
+    assert!(rt; answers_clients(&rt, &Cell::new(0), pace) == Some(true));
 }
 
 /// Returns whether a silent peer keeps its face, while the face of a silent client closes.

@@ -1,0 +1,30 @@
+//! What a node, and the connections of its faces, have for these faces.
+use crate::faces::{ConnectedFace, is_busy};
+use face_table::Holdings;
+use forwarder::Node;
+use node_ports::NodeHoldings;
+
+/// A node and its connections. They have something for a face if the node has, or if the face is
+/// that of a connection that may have more packets, or that has not yet written all.
+#[derive(Clone, Copy)]
+pub struct FaceHoldings<'a> {
+    node: &'a Node,
+    faces: &'a [ConnectedFace],
+}
+
+impl<'a> FaceHoldings<'a> {
+    /// Returns what this node and these connections have.
+    pub fn of(node: &'a Node, faces: &'a [ConnectedFace]) -> FaceHoldings<'a> {
+        FaceHoldings { node, faces }
+    }
+}
+
+impl Holdings for FaceHoldings<'_> {
+    ghost use Rattle.std.specs.Prelude.{⊤};
+
+    ghost Holds = { λ holdings face. ⊤ };
+
+    fn holds(&self, face: u64) -> bool {
+        NodeHoldings::of(self.node).holds(face) || is_busy(self.faces, face)
+    }
+}

@@ -1,0 +1,27 @@
+//! What a node has for its faces.
+use face_table::Holdings;
+use forwarder::Node;
+
+/// A node that is asked what it has for its faces: the records of pending Interests, and the
+/// routes.
+#[derive(Clone, Copy)]
+pub struct NodeHoldings<'a> {
+    node: &'a Node,
+}
+
+impl<'a> NodeHoldings<'a> {
+    /// Returns what this node has.
+    pub fn of(node: &'a Node) -> NodeHoldings<'a> {
+        NodeHoldings { node }
+    }
+}
+
+impl Holdings for NodeHoldings<'_> {
+    ghost use Rattle.node_ports.specs.Holdings.{NodeHolds};
+
+    ghost Holds = { λ holdings face. NodeHolds holdings.node.now face };
+
+    fn holds(&self, face: u64) -> bool {
+        self.node.holds(face)
+    }
+}
