@@ -1,9 +1,9 @@
 -- What happens to a table, stated of its view `whole`, which is `table`.
-use Rattle.std.proofs.Common.{◌≡◌, ℕ, Bool, List, position, remove, slice_get, ap, subst, ◌∙◌, inl, inr}
+use Rattle.std.proofs.Common.{◌≡◌, ℕ, List, position, remove, slice_get, ap, subst, ◌∙◌, inl}
 use Rattle.std.specs.Prelude.{Some}
-use Rattle.face_table.specs.Clients.{ClientsState, HearsInTime, IsIdle, IsSilentLongest, IsSilentLongestOf, MayGiveWay, MayHear}
+use Rattle.face_table.specs.Clients.{ClientsState, HearsInTime, IsIdle, IsSilentLongest}
 use Rattle.face_table.specs.Link.{is_at}
-use Rattle.face_table.specs.Table.{HasPlace, IsNewcomer, Leaves, Meets, NoneIsIdle, TableState, with_clients}
+use Rattle.face_table.specs.Table.{Leaves, Meets, TableState, with_clients}
 use Rattle.face_table.specs.declared.clients.Client.{Client}
 use Rattle.face_table.specs.declared.link.Link.{Link}
 use Rattle.face_table.specs.declared.table.Met.TheVariants.{Closing}

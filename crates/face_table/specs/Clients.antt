@@ -1,7 +1,7 @@
 -- Clients: links that are no peers' and have faces. For each client, the time is stored when
 -- something arrived from it last. Durations are in milliseconds, and times in milliseconds since
 -- 1970.
-use Rattle.std.specs.Prelude.{◌≡◌, ℕ, ◌+◌, ◌<◌, ◌≤◌, ◌⊎◌, Bool, false, List, All, filter, length, not, position, slice_get, slice_set, take, Option, None, Some, ⊤}
+use Rattle.std.specs.Prelude.{◌≡◌, ℕ, ◌+◌, ◌<◌, ◌≤◌, ◌⊎◌, false, List, All, filter, length, not, position, slice_get, slice_set, take, Option, None, Some, ⊤}
 use Rattle.face_table.specs.declared.clients.Client.{Client}
 use Rattle.face_table.specs.declared.clients.TheConstants.{GIVE_WAY_MILLISECONDS}
 use Rattle.face_table.specs.declared.link.Link.{Link}

@@ -1,7 +1,7 @@
 -- The links that have faces, and what is done with what arrives from a link: it arrives on the
 -- link's face, a face opens for the link, or the face of a client closes first. The client whose
 -- face closes may be the link's own.
-use Rattle.std.specs.Prelude.{◌≡◌, ℕ, ◌+◌, ◌-◌, ◌<◌, ◌⊎◌, ◌==◌, Bool, List, [], ◌∷◌, ◌++◌, All, find, length, min, option_map, position, remove, slice_get, unwrap_or, Option, None, Some, IsTrue, if◌then◌else◌}
+use Rattle.std.specs.Prelude.{◌≡◌, ℕ, ◌+◌, ◌-◌, ◌<◌, ◌⊎◌, ◌==◌, List, [], ◌∷◌, ◌++◌, All, find, length, min, option_map, position, remove, slice_get, unwrap_or, Option, None, Some, IsTrue, if◌then◌else◌}
 use Rattle.std.specs.Option.{option_and_then, option_or}
 use Rattle.std.specs.declared.net.socket_addr.SocketAddr.{SocketAddr}
 use Rattle.face_table.specs.declared.peers.TheConstants.{MAX_FACES}

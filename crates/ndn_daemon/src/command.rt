@@ -97,11 +97,12 @@ An endpoint that is not a peer is a stranger. If the node listens on a loopback 
 the node drops the datagrams of strangers.
 
 The face of a stranger becomes idle when nothing has come from the stranger for the time of --idle.
-Before the node handles a datagram, it closes the idle faces, one in each turn. If 64 endpoints have
-faces, and an endpoint without a face sends a datagram, the node looks at the faces of strangers. It
-closes the face that has been silent longest, but only if this silence has lasted at least 10
-seconds. Otherwise the node drops the datagram. While the node runs, it never gives the same number
-to two faces.
+Before the node handles a datagram, or accepts a connection, it closes the idle faces, one in each
+turn. If 64 endpoints have faces, and an endpoint without a face sends a datagram, the node looks
+for a face of a stranger that may close: one that has neither a pending Interest nor a route, or one
+that has been silent for at least 10 seconds. Of these it closes the one that has been silent
+longest. If none may close, the node drops the datagram. While the node runs, it never gives the
+same number to two faces.
 
 With --tcp or --unix, programs can also connect to the node, and send and get packets one after
 another on the connection. With --websocket, web pages can do so, each packet in a binary message.
@@ -112,8 +113,10 @@ when its octets are no packets, or when a packet that it has begun is not whole 
 Over a Unix socket, and over TCP from a loopback address, the face is Local: its program may send
 commands under /localhost, and the face stays open until the connection ends. Over TCP from another
 address the face is Far, and closes when it is idle or must make room, as that of a stranger. Of the
-64 places for faces, 8 are left to peers and to Local connections. A file that an earlier node left
-at PATH is removed. Only the owner of the file at PATH can connect to it.
+64 places for faces, 8 are left to peers and to Local connections: strangers and Far connections
+must make room when they have 56 faces. A connection for which there is no place is closed at once.
+A file that an earlier node left at PATH is removed. Only the owner of the file at PATH can connect
+to it.
 
 A turn handles one event: a face opens or closes, a packet arrives, or the node takes new rules and
 keys. The node prints turn N as `script` prints event N. It reads the time from the machine's clock.

@@ -1,3 +1,4 @@
 pub mod Arrivals
 pub mod Links
 pub mod Handshakes
+pub mod Holdings

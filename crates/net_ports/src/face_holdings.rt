@@ -20,9 +20,9 @@ impl<'a> FaceHoldings<'a> {
 }
 
 impl Holdings for FaceHoldings<'_> {
-    ghost use Rattle.std.specs.Prelude.{⊤};
+    ghost use Rattle.net_ports.specs.Holdings.{NodeOrBusy};
 
-    ghost Holds = { λ holdings face. ⊤ };
+    ghost Holds = { λ holdings face. NodeOrBusy holdings.node.now holdings.faces.now face };
 
     fn holds(&self, face: u64) -> bool {
         NodeHoldings::of(self.node).holds(face) || is_busy(self.faces, face)

@@ -1,4 +1,7 @@
 //! The connections that have faces.
+ghost use Rattle.std.specs.Prelude.{◌↔◌, ◌≡◌, ◌⊎◌, ◌==◌, IsTrue};
+ghost use Rattle.net_ports.specs.Holdings.{IsBusy, IsBusyNow};
+
 use crate::wire::Wire;
 use face_table::Link;
 use ndn_streams::Connection;
@@ -11,6 +14,15 @@ pub struct ConnectedFace {
     pub number: u64,
     pub face: u64,
     pub connection: Connection<Wire>,
+}
+
+impl ConnectedFace {
+    /// Returns whether the connection may have a packet, or has octets to write.
+    fn is_busy(&self) -> bool
+        ensures { IsTrue result ↔ IsBusyNow self.now.connection }
+    {
+        self.connection.may_go_on() || self.connection.is_writing()
+    }
 }
 
 /// Notes that the socket of the connection with this number may go on.
@@ -29,9 +41,11 @@ pub fn may_go_on(faces: &[ConnectedFace]) -> bool {
 
 /// Returns whether the face is that of a connection that may go on, or whose octets wait to be
 /// written.
-pub fn is_busy(faces: &[ConnectedFace], face: u64) -> bool {
+pub fn is_busy(faces: &[ConnectedFace], face: u64) -> bool
+    ensures { IsTrue result ↔ IsBusy faces.now face }
+{
     match faces.iter().find(|held| held.face == face) {
-        Some(held) => held.connection.may_go_on() || held.connection.is_writing(),
+        Some(held) => held.is_busy(),
         None => false,
     }
 }
