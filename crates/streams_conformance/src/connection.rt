@@ -20,8 +20,9 @@ use test_support::octets;
 /// `n` shows the next packet, or `none`. `s0102` sends a packet, and shows `+` if it is taken and
 /// `-` if it is dropped. `g` shows what the socket has taken since the last `g`, or `.` if nothing.
 /// `?` shows `done` if the face must close, `go` if the connection may go on, and `wait` if it
-/// waits for the socket. `c100` checks the connection at the time 100, with a limit of 10
-/// milliseconds, and shows nothing.
+/// waits for the socket. `!` shows `writes` if octets wait to be written, and `wrote` if not.
+/// `c100` checks the connection at the time 100, with a limit of 10 milliseconds, and shows
+/// nothing.
 const CALLS: &str = "
 # Packets that come together, in parts, and with the beginning of the next.
 9 99 r050101060102 n n n ? -> 050101 060102 none wait
@@ -44,6 +45,7 @@ const CALLS: &str = "
 # What waits is still written then, and is all written before the connection is done.
 9 99 t1bb s010203 e n ? g w ? n ? g -> + none wait 01 go none done 0203
 9 99 t1bb1b s010203 e n ? w n ? s04 ? g -> + none wait none wait + done 01020304
+9 99 ! t1b s010203 ! n ! g -> wrote + writes none wrote 010203
 # A failed read ends the connection, after the packets before it.
 9 99 r0500 x n ? n ? n s01 g -> 0500 go none done none - .
 9 99 r0502 x n ? w r0102 n ? -> none done none done
@@ -192,6 +194,8 @@ fn call<'a>(
             text,
             state_word(connection.may_go_on(), connection.is_done()),
         )?,
+        "!" if connection.is_writing() => put_word(text, "writes")?,
+        "!" => put_word(text, "wrote")?,
         "w" => connection.wake(),
         "c" => connection.check(rest.parse().ok()?, 10),
         _ => return None,
