@@ -1,5 +1,5 @@
-//! Ports over UDP, TCP, Unix sockets and WebSocket: one node has a face for each UDP endpoint that it
-//! knows, and for each connection.
+//! Ports over UDP, TCP, Unix sockets and WebSocket: one node has a face for each UDP endpoint that
+//! it knows, and for each connection.
 #![tactic(auto)]
 
 mod face_holdings;

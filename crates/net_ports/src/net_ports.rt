@@ -39,8 +39,8 @@ pub const PARTIAL_MILLISECONDS: u64 = 10_000;
 /// connections, and all opening handshakes.
 const LISTENERS: usize = 5;
 
-/// After so many arrivals, these ports ask the system which sockets have something, although not all
-/// that is known to be there was given.
+/// After so many arrivals, these ports ask the system which sockets have something, although not
+/// all that is known to be there was given.
 const ARRIVALS: u32 = 32;
 
 /// How long these ports wait at most before they look at all sockets, in milliseconds.
@@ -56,9 +56,10 @@ const SOON_MILLISECONDS: u64 = 1;
 /// opens when the connection is accepted, and closes when the other end ends the connection, when
 /// the connection fails, or when its octets are no packets. The face of a connection over a Unix
 /// socket, or over TCP from a loopback address, is Local. The face of another connection is Far,
-/// and may close as that of a UDP endpoint, when it is idle or to make room. A connection for which
-/// no place is left is closed at once. A connection over WebSocket gets its face once its opening
-/// handshake is done, and its request had a listed Origin.
+/// and may close as that of a UDP endpoint, when it is idle or to make room: at once only if the
+/// node has nothing for it, and nothing may be read from the connection, or waits to be written. A
+/// connection for which no place is left is closed at once. A connection over WebSocket gets its
+/// face once its opening handshake is done, and its request had a listed Origin.
 #[derive(Drop)]
 pub struct NetPorts<M: Moments> {
     alloc: Global,
@@ -174,8 +175,8 @@ impl<M: Moments> NetPorts<M> {
     }
 
     /// Returns the next arrival due to a datagram. If a face closes for it, the connection of this
-    /// face ends. A datagram for whose endpoint no place is left is dropped, and counted among those
-    /// of strangers.
+    /// face ends. A datagram for whose endpoint no place is left is dropped, and counted among
+    /// those of strangers.
     fn take_datagram(&mut self, node: &Node, buffer: &mut [u8]) -> Option<Arrival>
         ensures fits { IfSome result (LiesWithin (length buffer.new)) }
         ensures works { self.new.udp.failures ≡ self.old.udp.failures }

@@ -23,7 +23,8 @@ pub const FRAME_ROOM: usize = MAX_FRAME + 1;
 
 /// Law: `FRAME_ROOM` is 9,001, one more than the length in octets of the longest packet that a node
 /// accepts. A client may lose its face after 10 seconds of silence, also if the node has something
-/// for the face. `next_soon` waits for a millisecond at a UDP port. An answer to a client is waited for during 4 seconds.
+/// for the face. `next_soon` waits for a millisecond at a UDP port. An answer to a client is waited
+/// for during 4 seconds.
 pub fn ports_are_as_promised()
     ensures room { FRAME_ROOM ≡ 9001 }
     ensures gives_way { GIVE_WAY_MILLISECONDS ≡ 10000 }

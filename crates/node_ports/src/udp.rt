@@ -47,9 +47,8 @@ pub trait Moments: Drop {
 /// greatest u64. The arrivals never end.
 ///
 /// After a call of `close_after`, the faces of idle clients close, and the face of a client may
-/// close to make room for an unknown endpoint: at once if the node has nothing for it. A peer's face
-/// never closes. After a call of
-/// `ignore_strangers`, only datagrams from peers are accepted.
+/// close to make room for an unknown endpoint: at once if the node has nothing for it. A peer's
+/// face never closes. After a call of `ignore_strangers`, only datagrams from peers are accepted.
 #[derive(Drop)]
 pub struct UdpPorts<M: Moments> {
     socket: UdpSocket,
@@ -217,8 +216,8 @@ impl<M: Moments> UdpPorts<M> {
         None
     }
 
-    /// From now on, no call waits for a datagram, and no send waits for the socket: `next` fails, and
-    /// `next_soon` returns `None`, if no datagram has come. Clients with Far faces leave `spare`
+    /// From now on, no call waits for a datagram, and no send waits for the socket: `next` fails,
+    /// and `next_soon` returns `None`, if no datagram has come. Clients with Far faces leave `spare`
     /// places, of the 64, to peers and to Local links. For ports that wait for other sockets too.
     /// Returns false if the system refuses.
     pub fn share_with_connections(&mut self, spare: usize) -> bool
