@@ -1,4 +1,6 @@
 //! What a node, and the connections of its faces, have for these faces.
+ghost use Rattle.std.specs.Prelude.{◌≡◌};
+
 use crate::faces::{ConnectedFace, is_busy};
 use face_table::Holdings;
 use forwarder::Node;
@@ -14,7 +16,10 @@ pub struct FaceHoldings<'a> {
 
 impl<'a> FaceHoldings<'a> {
     /// Returns what this node and these connections have.
-    pub fn of(node: &'a Node, faces: &'a [ConnectedFace]) -> FaceHoldings<'a> {
+    pub fn of(node: &'a Node, faces: &'a [ConnectedFace]) -> FaceHoldings<'a>
+        ensures node { result.node.now ≡ node.now }
+        ensures faces { result.faces.now ≡ faces.now }
+    {
         FaceHoldings { node, faces }
     }
 }

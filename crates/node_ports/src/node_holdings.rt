@@ -1,4 +1,6 @@
 //! What a node has for its faces.
+ghost use Rattle.std.specs.Prelude.{◌≡◌};
+
 use face_table::Holdings;
 use forwarder::Node;
 
@@ -11,7 +13,9 @@ pub struct NodeHoldings<'a> {
 
 impl<'a> NodeHoldings<'a> {
     /// Returns what this node has.
-    pub fn of(node: &'a Node) -> NodeHoldings<'a> {
+    pub fn of(node: &'a Node) -> NodeHoldings<'a>
+        ensures { result.node.now ≡ node.now }
+    {
         NodeHoldings { node }
     }
 }
