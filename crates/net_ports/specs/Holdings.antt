@@ -1,5 +1,5 @@
 -- What a node, and the connections of its faces, have for these faces.
-use Rattle.std.specs.Prelude.{◌≡◌, ℕ, ◌⊎◌, ◌==◌, List, [], find, IfSome, Option, None, Some, IsTrue}
+use Rattle.std.specs.Prelude.{◌≡◌, ℕ, ◌⊎◌, ◌==◌, List, [], find, Option, None, Some, IsTrue}
 use Rattle.forwarder.specs.Node.{NodeState}
 use Rattle.ndn_streams.specs.Connection.{ConnectionState, IsDone}
 use Rattle.node_ports.specs.Holdings.{NodeHolds}

@@ -1,5 +1,6 @@
 //! The connections that have faces.
-ghost use Rattle.std.specs.Prelude.{◌↔◌, ◌≡◌, ◌⊎◌, ◌==◌, IsTrue};
+ghost use Rattle.std.specs.Prelude.{◌↔◌, ◌≡◌, ◌==◌, find, IsTrue};
+ghost use Rattle.std.specs.Option.{option_map};
 ghost use Rattle.net_ports.specs.Holdings.{IsBusy, IsBusyNow};
 
 use crate::wire::Wire;
@@ -44,10 +45,17 @@ pub fn may_go_on(faces: &[ConnectedFace]) -> bool {
 pub fn is_busy(faces: &[ConnectedFace], face: u64) -> bool
     ensures { IsTrue result ↔ IsBusy faces.now face }
 {
-    match faces.iter().find(|held| held.face == face) {
+    match connected(faces, face) {
         Some(held) => held.is_busy(),
         None => false,
     }
+}
+
+/// Returns the connection with this face.
+fn connected(faces: &[ConnectedFace], face: u64) -> Option<&ConnectedFace>
+    ensures { option_map (λ held. held.now) result ≡ find (λ held. held.face == face) faces.now }
+{
+    faces.iter().find(|held| held.face == face)
 }
 
 /// Ends the connections that have been in the middle of a packet for `limit` milliseconds at the

@@ -5,8 +5,8 @@ ghost use Rattle.net_ports.specs.declared.faces.ConnectedFace.{ConnectedFace};
 ghost use Rattle.node_ports.specs.Ports.{LiesWithin, arrived};
 ghost use Rattle.node_ports.specs.Step.{Got, count_after, failures_in, one_more, step_of};
 
-use crate::faces::{ConnectedFace, check, may_go_on};
 use crate::face_holdings::FaceHoldings;
+use crate::faces::{ConnectedFace, check, may_go_on};
 use crate::handshakes;
 use crate::handshakes::{Handshake, add, end_late, next_done};
 use crate::sockets::{BindFault, Listen, Sockets};

@@ -11,9 +11,9 @@ ghost use Rattle.node_ports.specs.Ports.{Arrival, LiesWithin, arrived};
 ghost use Rattle.node_ports.specs.Step.{Got, count_after, failures_in, one_more, step_of};
 ghost use Rattle.node_ports.specs.Udp.{Brings, DropsStrangers, FailsReceiving, GivesWaiting, BringsAfterClosing, HasOpened, IsAccepted, Listens, OpensPeer, UdpGives, bound_to, closes_after, kept, waiting_at};
 
+use crate::node_holdings::NodeHoldings;
 use crate::ports::{Arrival, FRAME_ROOM, PortFault, Ports, put_front};
 use crate::serving::Turn;
-use crate::node_holdings::NodeHoldings;
 use face_table::{FaceTable, Holdings, Link, MAX_FACES, Met};
 use forwarder::{Event, Node, Scope, Verdict};
 use info_rules::Rules;
@@ -360,8 +360,7 @@ impl<M: Moments> UdpPorts<M> {
         requires waiting { (octets : List ℕ) × (self.old.waiting
             ≡ Some (record { endpoint = endpoint; face = None; octets = octets })) }
         ensures fits { LiesWithin (length buffer.new) result }
-        ensures gives
-            { BringsAfterClosing (H.Holds holdings.now) self.old self.new buffer.new result }
+        ensures gives { BringsAfterClosing (H.Holds holdings.now) self.old self.new buffer.new result }
     {
         let now = self.now();
         match self.known.meet(Link::Udp(endpoint), now, holdings) {
@@ -481,8 +480,7 @@ impl<M: Moments> UdpPorts<M> {
     ) -> Option<Arrival>
         requires { Listens self.old }
         ensures fits { IfSome result (LiesWithin (length buffer.new)) }
-        ensures gives
-            { IfSome result (UdpGives (H.Holds holdings.now) self.old self.new buffer.new) }
+        ensures gives { IfSome result (UdpGives (H.Holds holdings.now) self.old self.new buffer.new) }
         ensures none { result ≡ None → DropsStrangers self.old self.new }
         ensures works { self.new.failures ≡ self.old.failures }
     {
@@ -523,8 +521,7 @@ impl<M: Moments> UdpPorts<M> {
         is_brief: bool,
     ) -> Option<Arrival>
         ensures fits { IfSome result (LiesWithin (length buffer.new)) }
-        ensures gives
-            { IfSome result (UdpGives (H.Holds holdings.now) self.old self.new buffer.new) }
+        ensures gives { IfSome result (UdpGives (H.Holds holdings.now) self.old self.new buffer.new) }
         ensures none { result ≡ None → Listens self.old × DropsStrangers self.old self.new }
         ensures works { self.new.failures ≡ self.old.failures }
     {

@@ -2,8 +2,8 @@
 //! endpoint is an address and a port. A stranger is an endpoint that is not a peer.
 
 use super::udp::{
-    Moving, bound_socket, brings_face, brings_packet, free_port, hears_octets, moving_ports, next_of,
-    opens, port_of,
+    Moving, bound_socket, brings_face, brings_packet, free_port, hears_octets, moving_ports,
+    next_of, opens, port_of,
 };
 use node_ports::{Ports, UdpPorts};
 use std::net::{Ipv4Addr, Ipv6Addr, Net, SocketAddr, UdpSocket};

@@ -6,8 +6,8 @@ use face_table::Holdings;
 use ndn_packets::PacketFault;
 use node_core::{DropReason, Event, Node, Outbox, Scope, Verdict};
 use node_ports::{
-    Arrival, FRAME_ROOM, Moments, Ports, Served, Turn, UdpPorts, receive_one, send_one, serve, serve_turn,
-    serve_turn_soon,
+    Arrival, FRAME_ROOM, Moments, Ports, Served, Turn, UdpPorts, receive_one, send_one, serve,
+    serve_turn, serve_turn_soon,
 };
 use std::alloc::Global;
 use std::cell::Cell;
@@ -562,15 +562,8 @@ fn node_answers(
 }
 
 /// Returns what `node_answers` returns for a new node.
-fn answers_clients(
-    rt: &(impl AllocGlobal + Net),
-    moment: &Cell<u64>,
-    pace: Pace,
-) -> Option<bool> {
-    on_node(
-        rt.alloc(),
-        &|_, node| node_answers(rt, node, moment, pace),
-    )
+fn answers_clients(rt: &(impl AllocGlobal + Net), moment: &Cell<u64>, pace: Pace) -> Option<bool> {
+    on_node(rt.alloc(), &|_, node| node_answers(rt, node, moment, pace))
 }
 
 /// Each of 200 clients gets a face, which closes after 600 seconds, before the face of the next
