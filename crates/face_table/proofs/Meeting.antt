@@ -1,5 +1,5 @@
 -- What happens to a table, stated of its view `whole`, which is `table`.
-use Rattle.std.proofs.Common.{◌≡◌, ℕ, List, position, remove, slice_get, ap, subst, ◌∙◌, inl}
+use Rattle.std.proofs.Common.{◌≡◌, ℕ, List, position, remove, slice_get, ap, subst, ◌∙◌, inl, Bool}
 use Rattle.std.specs.Prelude.{Some}
 use Rattle.face_table.specs.Clients.{ClientsState, HearsInTime, IsIdle, IsSilentLongest}
 use Rattle.face_table.specs.Link.{is_at}
@@ -21,10 +21,10 @@ module _ (whole table : TableState) (is : whole ≡ table) (state : ClientsState
   leaves link face place client first found face_is same =
       subst (λ (t : TableState). Leaves t after link face) is (place, client, first, found, face_is, ap (λ (s : ClientsState). record whole { clients = s }) same)
 
-  module _ (link : Link) (now : ℕ) (Holds : ℕ → Type 0) (face place : ℕ) (client : Client) (face_is : face ≡ client.face) where
+  module _ (link : Link) (now : ℕ) (Answers : ℕ → Bool → Type 0) (face place : ℕ) (client : Client) (face_is : face ≡ client.face) where
     pub closes_idle : (rows : List Client) → IsSilentLongest whole.clients.rows place client → IsIdle whole.clients.idle now client
         → HearsInTime whole.clients.idle whole.clients.rows rows link now → state ≡ record whole.clients { rows = remove rows place }
-        → Meets table after link now Holds (Closing face)
+        → Meets table after link now Answers (Closing face)
     closes_idle rows longest idle heard same =
-        subst (λ (t : TableState). Meets t after link now Holds (Closing face)) is
+        subst (λ (t : TableState). Meets t after link now Answers (Closing face)) is
         (inl (place, client, rows, longest, idle, heard, (face_is, ap (λ (s : ClientsState). record whole { clients = s }) same)))

@@ -1,43 +1,44 @@
 -- The client that has been silent longest of those with a property.
-use Rattle.std.proofs.Common.{◌≡◌, ℕ, ◌+◌, ◌<◌, ◌≤◌, List, length, length-take, slice_index_or, inl, inr, arith, subst, sym, All}
-use Rattle.std.specs.Prelude.{Option, Some, None, IfSome, slice_get}
-use Rattle.std.proofs.lemmas.List.{get_or_default, get_or-take}
-use Rattle.std.proofs.lemmas.Option.{slice_get-get_or}
-use Rattle.face_table.specs.Clients.{IsSilentLongestOf}
+use Rattle.std.proofs.Common.{ap, ◌≡◌, ℕ, ◌+◌, ◌<◌, ◌≤◌, List, length, slice_index_or, inl, inr, arith, subst, sym, ◌⊎◌, ◌∙◌}
+use Rattle.std.specs.Prelude.{Option, Some, None, IfSome, Bool, false, slice_get}
+use Rattle.std.proofs.lemmas.Option.{get_or_from_slice_get, slice_get-get_or, slice_get_within}
+use Rattle.face_table.specs.Clients.{IsSilent, IsSilentLongestOf, IsSpared, NoneGoes}
+use Rattle.face_table.specs.Link.{is_local}
+use Rattle.face_table.specs.declared.clients.TheConstants.{GIVE_WAY_MILLISECONDS}
 use Rattle.face_table.specs.declared.clients.Client.{Client}
 use Rattle.face_table.proofs.Silent.{nobody, split_last}
 
 abbrev pub at : List Client → ℕ → Client
 at clients k = slice_index_or clients k nobody
 
-module _ (Goes : Client → Type 0) (clients : List Client) where
+module _ (Goes : ℕ → Type 0) (clients : List Client) where
   -- Of the first `count` clients with the property, the client at index `place` has been silent
   -- longest. If several have been silent equally long, it is the first of these.
   pub record IsFirst (count place : ℕ) : Type 0 where
     pub within : place < count
-    pub goes : Goes (at clients place)
-    pub least : (k : ℕ) → k < count → Goes (at clients k) → (at clients place).heard ≤ (at clients k).heard
-    pub first : (k : ℕ) → k < place → Goes (at clients k) → (at clients place).heard < (at clients k).heard
+    pub goes : Goes place
+    pub least : (k : ℕ) → k < count → Goes k → (at clients place).heard ≤ (at clients k).heard
+    pub first : (k : ℕ) → k < place → Goes k → (at clients place).heard < (at clients k).heard
 
   -- the same, where there may be no such client
   abbrev pub IsFound : ℕ → Option ℕ → Type 0
-  IsFound count None = (k : ℕ) → k < count → Goes (at clients k) → ⊥
+  IsFound count None = (k : ℕ) → k < count → Goes k → ⊥
   IsFound count (Some place) = IsFirst count place
 
   pub IsFound-start : IsFound 0 None
   IsFound-start k h goes = absurd (omega (arith, h))
 
-  pub IsFound-passed : (count : ℕ) (found : Option ℕ) → IsFound count found → (Goes (at clients count) → ⊥) → IsFound (count + 1) found
+  pub IsFound-passed : (count : ℕ) (found : Option ℕ) → IsFound count found → (Goes count → ⊥) → IsFound (count + 1) found
   IsFound-passed count None h not = λ k below goes. elim (split_last k count below) [
     | inl l ↦ h k l goes
-    | inr e ↦ not (subst (λ (n : ℕ). Goes (at clients n)) e goes)
+    | inr e ↦ not (subst (λ (n : ℕ). Goes n) e goes)
   ]
   IsFound-passed count (Some place) h not = record {
     within = let w = h.within in omega (arith, w);
     goes = h.goes;
     least = λ k below goes. elim (split_last k count below) [
       | inl l ↦ h.least k l goes
-      | inr e ↦ absurd (not (subst (λ (n : ℕ). Goes (at clients n)) e goes))
+      | inr e ↦ absurd (not (subst (λ (n : ℕ). Goes n) e goes))
     ];
     first = h.first;
   }
@@ -53,7 +54,7 @@ module _ (Goes : Client → Type 0) (clients : List Client) where
     first = h.first;
   }
 
-  pub IsFound-taken : (count : ℕ) (found : Option ℕ) → IsFound count found → Goes (at clients count)
+  pub IsFound-taken : (count : ℕ) (found : Option ℕ) → IsFound count found → Goes count
       → IfSome found (λ place. (at clients count).heard < (at clients place).heard) → IsFound (count + 1) (Some count)
   IsFound-taken count None h goes longer = record {
     within = omega arith;
@@ -78,7 +79,7 @@ module _ (Goes : Client → Type 0) (clients : List Client) where
   IsFound-within count None h all = tt
   IsFound-within count (Some place) h all = let w = h.within in omega (arith, w, all)
 
-  pub IsFound-longer : (count : ℕ) (found : Option ℕ) → IsFound count found → count < length clients → Goes (at clients count)
+  pub IsFound-longer : (count : ℕ) (found : Option ℕ) → IsFound count found → count < length clients → Goes count
       → IfSome found (λ place. (client later : Client) → slice_get clients count ≡ Some client → slice_get clients place ≡ Some later → client.heard < later.heard)
       → IsFound (count + 1) (Some count)
   IsFound-longer count None h within goes longer = IsFound-taken count None h goes tt
@@ -97,24 +98,62 @@ module _ (Goes : Client → Type 0) (clients : List Client) where
       let kept = least.2 (at clients count) (at clients place) (slice_get-get_or clients count nobody within) (slice_get-get_or clients place nobody (omega (arith, w, within))) in
       subst (IsFound (count + 1)) (sym least.1) (IsFound-kept count place one kept)
 
-  pub IsFound-none : (count : ℕ) (found : Option ℕ) → IsFound count found → length clients ≤ count → found ≡ None → All (λ client. Goes client → ⊥) clients
-  IsFound-none count found h all none k d below =
-      let nobody_goes = subst (IsFound count) none h in
-      rw (get_or_default clients k d nobody below) (nobody_goes k (omega (arith, below, all)))
+-- the client at index `k` can be spared: what the code tests at this index
+abbrev pub IsSparedAt : ℕ → List Client → List Bool → ℕ → Type 0
+IsSparedAt now clients told k =
+    (is_local (at clients k).link ≡ false) × ((slice_index_or told k false ≡ false) ⊎ IsSilent GIVE_WAY_MILLISECONDS now (at clients k))
 
-  pub IsFound-some : (count : ℕ) (found : Option ℕ) → IsFound count found → count ≤ length clients → length clients ≤ count
-      → IfSome found (λ place. (client : Client) × IsSilentLongestOf Goes clients place client)
-  IsFound-some count None h below all = tt
-  IsFound-some count (Some place) h below all =
+module _ (now : ℕ) (clients : List Client) (told : List Bool) (len : length told ≡ length clients) where
+  spared_at : (k : ℕ) (other : Client) → slice_get clients k ≡ Some other → IsSpared now told k other → IsSparedAt now clients told k
+  spared_at k other is h =
+      let e = get_or_from_slice_get clients k other nobody is in
+      rw e (
+        h.0,
+        elim h.1 [
+          | inl lacks ↦ inl (get_or_from_slice_get told k false false lacks)
+          | inr silent ↦ inr silent
+        ],
+      )
+
+  spared_of : (k : ℕ) → k < length clients → IsSparedAt now clients told k → IsSpared now told k (at clients k)
+  spared_of k within h = (
+    h.0,
+    elim h.1 [
+      | inl lacks ↦ inl (slice_get-get_or told k false (omega (arith, within, len)) ∙ ap (λ (b : Bool). Some b) lacks)
+      | inr silent ↦ inr silent
+    ],
+  )
+
+  pub none_spared : (count : ℕ) (found : Option ℕ) → IsFound (IsSparedAt now clients told) clients count found → length clients ≤ count → found ≡ None
+      → NoneGoes (IsSpared now told) clients
+  none_spared count found h all none k other is goes =
+      let nobody_goes = subst (IsFound (IsSparedAt now clients told) clients count) none h in
+      let within = slice_get_within clients k other is in
+      nobody_goes k (omega (arith, within, all)) (spared_at k other is goes)
+
+  pub longest_spared : (count : ℕ) (found : Option ℕ) → IsFound (IsSparedAt now clients told) clients count found → count ≤ length clients → length clients ≤ count
+      → IfSome found (λ place. (client : Client) × IsSilentLongestOf (IsSpared now told) clients place client)
+  longest_spared count None h below all = tt
+  longest_spared count (Some place) h below all =
       let w = h.within in
       let within : place < length clients = omega (arith, w, below) in (
         at clients place,
         record {
           is = slice_get-get_or clients place nobody within;
-          goes = h.goes;
-          least = λ k d here. rw (get_or_default clients k d nobody here) (h.least k (omega (arith, here, all)));
-          first = λ k d here.
-              let short : k < place = omega (arith, here, length-take place clients) in
-              rw (get_or-take place clients k d short) (rw (get_or_default clients k d nobody (omega (arith, short, within))) (h.first k short));
+          goes = spared_of place within h.goes;
+          least = λ k other is goes.
+              let e = get_or_from_slice_get clients k other nobody is in
+              let here = slice_get_within clients k other is in
+              subst (λ (c : Client). (at clients place).heard ≤ c.heard) e (h.least k (omega (arith, here, all)) (spared_at k other is goes));
+          first = λ k other sooner is goes.
+              let e = get_or_from_slice_get clients k other nobody is in
+              subst (λ (c : Client). (at clients place).heard < c.heard) e (h.first k sooner (spared_at k other is goes));
         },
       )
+
+-- ---- the answers of a node
+
+-- the answers for the first `count` clients
+pub record HaveAnswered (Answers : ℕ → Bool → Type 0) (clients : List Client) (told : List Bool) (count : ℕ) : Type 0 where
+  pub len : length told ≡ count
+  pub each : (k : ℕ) → k < count → Answers (at clients k).face (slice_index_or told k false)

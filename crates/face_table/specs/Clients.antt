@@ -1,7 +1,7 @@
 -- Clients: links that are no peers' and have faces. For each client, the time is stored when
 -- something arrived from it last. Durations are in milliseconds, and times in milliseconds since
 -- 1970.
-use Rattle.std.specs.Prelude.{◌≡◌, ℕ, ◌+◌, ◌<◌, ◌≤◌, ◌⊎◌, false, List, All, filter, length, not, position, slice_get, slice_set, take, Option, None, Some, ⊤}
+use Rattle.std.specs.Prelude.{◌≡◌, ℕ, ◌+◌, ◌<◌, ◌≤◌, ◌⊎◌, false, List, All, filter, length, not, position, slice_get, slice_set, take, Option, None, Some, ⊤, Bool}
 use Rattle.face_table.specs.declared.clients.Client.{Client}
 use Rattle.face_table.specs.declared.clients.TheConstants.{GIVE_WAY_MILLISECONDS}
 use Rattle.face_table.specs.declared.link.Link.{Link}
@@ -26,18 +26,26 @@ abbrev pub IsIdle : Option ℕ → ℕ → Client → Type 0
 IsIdle None now client = ⊥
 IsIdle (Some idle) now client = IsSilent idle now client
 
--- The client's face is Far, and the node has nothing for it (not `Holds`), or the client has
--- been silent for at least 10 seconds.
-abbrev pub IsSpared : ℕ → (ℕ → Type 0) → Client → Type 0
-IsSpared now Holds client =
+-- `told` has an answer for the face of each client, in the same order, to the question whether the
+-- node has something for this face
+pub record AreAnswers (Answers : ℕ → Bool → Type 0) (clients : List Client) (told : List Bool)
+    : Type 0 where
+  pub len : length told ≡ length clients
+  pub each : (place : ℕ) (client : Client) (answer : Bool) → slice_get clients place ≡ Some client
+      → slice_get told place ≡ Some answer → Answers client.face answer
+
+-- The face of the client, which is at index `place`, is Far, and the node has nothing for it, as it
+-- told, or the client has been silent for at least 10 seconds.
+abbrev pub IsSpared : ℕ → List Bool → ℕ → Client → Type 0
+IsSpared now told place client =
     (is_local client.link ≡ false)
-    × ((Holds client.face → ⊥) ⊎ IsSilent GIVE_WAY_MILLISECONDS now client)
+    × ((slice_get told place ≡ Some false) ⊎ IsSilent GIVE_WAY_MILLISECONDS now client)
 
 -- the client's face may close to make room for a link without a face: an idle time is set, and the
 -- face can be spared
-abbrev pub MayGiveWay : Option ℕ → ℕ → (ℕ → Type 0) → Client → Type 0
-MayGiveWay None now Holds client = ⊥
-MayGiveWay (Some idle) now Holds client = IsSpared now Holds client
+abbrev pub MayGiveWay : Option ℕ → ℕ → List Bool → ℕ → Client → Type 0
+MayGiveWay None now told place client = ⊥
+MayGiveWay (Some idle) now told place client = IsSpared now told place client
 
 -- The client at index `place` has been silent longest. If several clients have been silent equally
 -- long, the client at index `place` is the first of these clients.
@@ -46,14 +54,29 @@ pub record IsSilentLongest (clients : List Client) (place : ℕ) (client : Clien
   pub least : All (λ other. client.heard ≤ other.heard) clients
   pub first : All (λ other. client.heard < other.heard) (take place clients)
 
--- Of the clients with the property `Goes`, the client at index `place` has been silent longest. If
--- several of them have been silent equally long, the client at index `place` is the first of these.
-pub record IsSilentLongestOf (Goes : Client → Type 0) (clients : List Client) (place : ℕ)
+-- Of the clients with the property `Goes`, which may speak of their index too, the client at index
+-- `place` has been silent longest. If several of them have been silent equally long, the client at
+-- index `place` is the first of these.
+pub record IsSilentLongestOf (Goes : ℕ → Client → Type 0) (clients : List Client) (place : ℕ)
     (client : Client) : Type 0 where
   pub is : slice_get clients place ≡ Some client
-  pub goes : Goes client
-  pub least : All (λ other. Goes other → client.heard ≤ other.heard) clients
-  pub first : All (λ other. Goes other → client.heard < other.heard) (take place clients)
+  pub goes : Goes place client
+  pub least : (k : ℕ) (other : Client) → slice_get clients k ≡ Some other → Goes k other
+      → client.heard ≤ other.heard
+  pub first : (k : ℕ) (other : Client) → k < place → slice_get clients k ≡ Some other
+      → Goes k other → client.heard < other.heard
+
+-- none of the clients has the property `Goes`
+abbrev pub NoneGoes : (ℕ → Client → Type 0) → List Client → Type 0
+NoneGoes Goes clients =
+    (k : ℕ) (other : Client) → slice_get clients k ≡ Some other → Goes k other → ⊥
+
+-- No face may close to make room for a link without a face: no idle time is set, or no client may
+-- give way (`MayGiveWay`), as the node told.
+abbrev pub NoneMayGiveWay : Option ℕ → ℕ → (ℕ → Bool → Type 0) → List Client → Type 0
+NoneMayGiveWay idle now Answers clients =
+    (idle ≡ None) ⊎ ((told : List Bool) × AreAnswers Answers clients told
+    × NoneGoes (MayGiveWay idle now told) clients)
 
 -- something arrives at the time `now` from the first client with this link, which has this face;
 -- nothing else changes

@@ -1,7 +1,7 @@
 -- The links that have faces, and what is done with what arrives from a link: it arrives on the
 -- link's face, a face opens for the link, or the face of a client closes first. The client whose
 -- face closes may be the link's own.
-use Rattle.std.specs.Prelude.{◌≡◌, ℕ, ◌+◌, ◌-◌, ◌<◌, ◌⊎◌, ◌==◌, List, [], ◌∷◌, ◌++◌, All, find, length, min, option_map, position, remove, slice_get, unwrap_or, Option, None, Some, IsTrue, if◌then◌else◌}
+use Rattle.std.specs.Prelude.{◌≡◌, ℕ, ◌+◌, ◌-◌, ◌<◌, ◌⊎◌, ◌==◌, List, [], ◌∷◌, ◌++◌, All, find, length, min, option_map, position, remove, slice_get, unwrap_or, Option, None, Some, IsTrue, if◌then◌else◌, Bool}
 use Rattle.std.specs.Option.{option_and_then, option_or}
 use Rattle.std.specs.declared.net.socket_addr.SocketAddr.{SocketAddr}
 use Rattle.face_table.specs.declared.peers.TheConstants.{MAX_FACES}
@@ -11,7 +11,7 @@ use Rattle.face_table.specs.declared.link.Link.TheVariants.{Udp}
 use Rattle.face_table.specs.declared.table.Met.{Met}
 use Rattle.face_table.specs.declared.table.Met.TheVariants.{Face, Opening, Closing}
 use Rattle.face_table.specs.Link.{heard_at, is_at, is_endpoint, is_local, udp_endpoint}
-use Rattle.face_table.specs.Clients.{ClientsState, far_count, MayGiveWay, Hears, HearsInTime, IsIdle, IsNoClient, IsSilentLongest, IsSilentLongestOf}
+use Rattle.face_table.specs.Clients.{AreAnswers, ClientsState, far_count, MayGiveWay, NoneMayGiveWay, Hears, HearsInTime, IsIdle, IsNoClient, IsSilentLongest, IsSilentLongestOf}
 
 pub record TableState : Type 0 where
   -- the endpoints of the peers, which have the faces 1, 2 and so on
@@ -124,36 +124,32 @@ abbrev pub NoneIsIdle : TableState → ℕ → Type 0
 NoneIsIdle before now =
     All (λ client. IsIdle before.clients.idle now client → ⊥) before.clients.rows
 
--- no client may give way (`MayGiveWay`): no face may close to make room for a link without a face
-abbrev pub NoneGivesWay : TableState → ℕ → (ℕ → Type 0) → Type 0
-NoneGivesWay before now Holds =
-    All (λ client. MayGiveWay before.clients.idle now Holds client → ⊥) before.clients.rows
-
--- What is done with what arrives from `link`. The node has something for the faces with the
--- property `Holds`. If a client is idle, the face of the client that has been silent longest
+-- What is done with what arrives from `link`. The node answers as `Answers` allows whether it has
+-- something for a face. If a client is idle, the face of the client that has been silent longest
 -- closes, whatever `link` is. If a client is idle, and the link is another client's that is not
 -- idle, something has arrived from that client at `now`. If no client is idle and the link has a
 -- face, it arrives on this face. If no client is idle, the link has no face, and a place is left
 -- (`HasPlace`), a face opens for the link. If no client is idle, the link has no face, no place is
--- left, and a client may give way (`MayGiveWay`), then the face of the client closes that has been
--- silent longest of those that may. If no client is idle, the link has no face, no place is left,
--- and no client may give way, then no face closes, and the link gets a face number but is not
--- stored (`OpensNone`).
-abbrev pub Meets : TableState → TableState → Link → ℕ → (ℕ → Type 0) → Met → Type 0
-Meets before after link now Holds (Face face) =
+-- left, and a client may give way (`MayGiveWay`) as the node told, then the face of the client
+-- closes that has been silent longest of those that may. If no client is idle, the link has no
+-- face, no place is left, and no client may give way, then no face closes, and the link gets a face
+-- number but is not stored (`OpensNone`).
+abbrev pub Meets : TableState → TableState → Link → ℕ → (ℕ → Bool → Type 0) → Met → Type 0
+Meets before after link now Answers (Face face) =
     NoneIsIdle before now × Knows before after link now face
-Meets before after link now Holds (Opening face) =
+Meets before after link now Answers (Opening face) =
     NoneIsIdle before now × IsNewcomer before link
     × ((HasPlace before link × OpensNew before after link now face)
-    ⊎ (¬ (HasPlace before link) × NoneGivesWay before now Holds × OpensNone before after face))
-Meets before after link now Holds (Closing face) =
+    ⊎ (¬ (HasPlace before link) × NoneMayGiveWay before.clients.idle now Answers before.clients.rows × OpensNone before after face))
+Meets before after link now Answers (Closing face) =
     ((place : ℕ) × (client : Client) × (rows : List Client)
     × IsSilentLongest before.clients.rows place client × IsIdle before.clients.idle now client
     × HearsInTime before.clients.idle before.clients.rows rows link now
     × Closes before rows after place client face)
     ⊎ (NoneIsIdle before now × IsNewcomer before link × ¬ (HasPlace before link)
-    × ((place : ℕ) × (client : Client)
-    × IsSilentLongestOf (MayGiveWay before.clients.idle now Holds) before.clients.rows place client
+    × ((told : List Bool) × (place : ℕ) × (client : Client)
+    × AreAnswers Answers before.clients.rows told
+    × IsSilentLongestOf (MayGiveWay before.clients.idle now told) before.clients.rows place client
     × Closes before before.clients.rows after place client face))
 
 -- The face of the client with this link closes, since its connection has ended.

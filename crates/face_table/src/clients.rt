@@ -1,7 +1,7 @@
 //! Clients: the links of strangers, and connections, which got their faces while the node runs.
-ghost use Rattle.std.specs.Prelude.{◌≡◌, ◌∷◌, ◌++◌, [], ◌+◌, ◌<◌, ◌≤◌, ◌==◌, ◌↔◌, ℕ, All, length, List, slice_get, slice_set, remove, position, find, option_map, IfSome, IsTrue, Some, None, true, false};
-ghost use Rattle.face_table.specs.Clients.{far_count, Hears, HearsInTime, IsIdle, IsNoClient, IsSilent, IsSilentLongest, IsSilentLongestOf, IsSpared, MayGiveWay};
-ghost use Rattle.face_table.specs.Link.{heard_at, is_at};
+ghost use Rattle.std.specs.Prelude.{◌≡◌, ◌⊎◌, ◌∷◌, ◌++◌, [], ◌+◌, ◌<◌, ◌≤◌, ◌==◌, ◌↔◌, ℕ, Bool, All, length, List, slice_get, slice_set, remove, position, find, option_map, IfSome, IsTrue, Some, None, true, false};
+ghost use Rattle.face_table.specs.Clients.{AreAnswers, far_count, Hears, HearsInTime, IsIdle, IsNoClient, IsSilent, IsSilentLongest, IsSilentLongestOf, IsSpared, MayGiveWay, NoneGoes, NoneMayGiveWay};
+ghost use Rattle.face_table.specs.Link.{heard_at, is_at, is_local};
 ghost use Rattle.face_table.specs.declared.clients.Client.{Client};
 
 use crate::holdings::Holdings;
@@ -229,15 +229,15 @@ impl Clients {
     /// face may close to make room.
     pub fn yielding_place<H: Holdings>(&self, now: u64, holdings: &H) -> Option<usize>
         ensures none { result ≡ None
-            → All (λ client. MayGiveWay self.now.idle now (H.Holds holdings.now) client → ⊥)
-            self.now.rows }
-        ensures longest { IfSome result (λ place. (client : Client)
-            × IsSilentLongestOf (MayGiveWay self.now.idle now (H.Holds holdings.now))
-            self.now.rows place client) }
+            → NoneMayGiveWay self.now.idle now (H.Answers holdings.now) self.now.rows }
+        ensures longest { IfSome result (λ place. (told : List Bool) × (client : Client)
+            × AreAnswers (H.Answers holdings.now) self.now.rows told
+            × IsSilentLongestOf (MayGiveWay self.now.idle now told) self.now.rows place client) }
         ensures within { IfSome result (λ place. place < length self.now.rows) }
     {
         let _idle = self.idle?;
-        first_spared(self.rows.as_slice(), now, holdings)
+        let told = answers(self.rows.as_slice(), holdings);
+        first_spared(self.rows.as_slice(), told.as_slice(), now)
     }
 
     /// Returns the index of the client that has been silent longest, if that client has been silent
@@ -323,31 +323,46 @@ fn silent_longest(clients: &[Client]) -> usize
     longest
 }
 
+/// Returns what the node answers for the face of each client, in the same order: whether it has
+/// something for this face. There must be at most 64 clients.
+fn answers<H: Holdings>(clients: &[Client], holdings: &H) -> ArrayVec<bool, MAX_FACES>
+    requires { length clients.now ≤ MAX_FACES }
+    ensures { AreAnswers (H.Answers holdings.now) clients.now result.items }
+{
+    let mut told = ArrayVec::new();
+    for place in 0..clients.len() {
+        told.push(holdings.holds(clients[place].face));
+    }
+    told
+}
+
 /// Returns the index of the client that has been silent longest of those whose faces can be spared.
 /// If several of them have been silent equally long, returns the index of the first of these.
-/// Returns `None` if no client's face can be spared.
-fn first_spared<H: Holdings>(clients: &[Client], now: u64, holdings: &H) -> Option<usize>
-    ensures none { result ≡ None
-        → All (λ client. IsSpared now (H.Holds holdings.now) client → ⊥) clients.now }
+/// Returns `None` if no client's face can be spared. `told` has an answer for each client: whether
+/// the node has something for its face.
+fn first_spared(clients: &[Client], told: &[bool], now: u64) -> Option<usize>
+    requires { length told.now ≡ length clients.now }
+    ensures none { result ≡ None → NoneGoes (IsSpared now told.now) clients.now }
     ensures longest { IfSome result (λ place. (client : Client)
-        × IsSilentLongestOf (IsSpared now (H.Holds holdings.now)) clients.now place client) }
+        × IsSilentLongestOf (IsSpared now told.now) clients.now place client) }
     ensures within { IfSome result (λ place. place < length clients.now) }
 {
     let mut first = None;
     for place in 0..clients.len() {
-        if is_spared(&clients[place], now, holdings) && is_longer(clients, place, first) {
+        if is_spared(&clients[place], told[place], now) && is_longer(clients, place, first) {
             first = Some(place);
         }
     }
     first
 }
 
-/// Returns whether the client's face can be spared at the time `now`.
-fn is_spared<H: Holdings>(client: &Client, now: u64, holdings: &H) -> bool
-    ensures { IsTrue result ↔ IsSpared now (H.Holds holdings.now) client.now }
+/// Returns whether the client's face can be spared at the time `now`. `is_held` is whether the node
+/// has something for the face.
+fn is_spared(client: &Client, is_held: bool, now: u64) -> bool
+    ensures { IsTrue result ↔ (is_local client.now.link ≡ false)
+        × ((is_held ≡ false) ⊎ IsSilent GIVE_WAY_MILLISECONDS now client.now) }
 {
-    !client.link.is_local()
-        && (is_silent(client.heard, GIVE_WAY_MILLISECONDS, now) || !holdings.holds(client.face))
+    !client.link.is_local() && (is_silent(client.heard, GIVE_WAY_MILLISECONDS, now) || !is_held)
 }
 
 /// Returns whether the client at index `place` has been silent longer than the one at index

@@ -133,7 +133,7 @@ impl FaceTable {
     /// Decides what to do with what arrives from `link` at the time `now`, in milliseconds since
     /// 1970. `holdings` is what the node has for its faces.
     pub fn meet<H: Holdings>(&mut self, link: Link, now: u64, holdings: &H) -> Met
-        ensures { Meets self.old self.new link now (H.Holds holdings.now) result }
+        ensures { Meets self.old self.new link now (H.Answers holdings.now) result }
     {
         if let Some(place) = self.clients.idle_place(now) {
             let face = self.clients.face_at(place);

@@ -89,9 +89,10 @@ struct Held {
 }
 
 impl Holdings for Held {
-    ghost use Rattle.std.specs.Prelude.{◌<◌, ◌⊎◌};
+    ghost use Rattle.std.specs.Prelude.{◌↔◌, ◌<◌, ◌⊎◌, IsTrue};
 
-    ghost Holds = { λ node face. (face < node.first) ⊎ (node.last < face) };
+    ghost Answers = { λ node face told.
+        IsTrue told ↔ ((face < node.first) ⊎ (node.last < face)) };
 
     fn holds(&self, face: u64) -> bool {
         face < self.first || self.last < face

@@ -1,8 +1,8 @@
 -- What a node, and the connections of its faces, have for these faces.
-use Rattle.std.specs.Prelude.{◌≡◌, ℕ, ◌⊎◌, ◌==◌, List, [], find, Option, None, Some, IsTrue}
+use Rattle.std.specs.Prelude.{◌≡◌, ◌↔◌, ℕ, Bool, ◌⊎◌, ◌==◌, List, [], find, Option, None, Some, IsTrue}
 use Rattle.forwarder.specs.Node.{NodeState}
 use Rattle.ndn_streams.specs.Connection.{ConnectionState, IsDone}
-use Rattle.node_ports.specs.Holdings.{NodeHolds}
+use Rattle.node_ports.specs.Holdings.{NodeAnswers}
 use Rattle.net_ports.specs.declared.faces.ConnectedFace.{ConnectedFace}
 
 -- the connection may have a packet, or has octets to write
@@ -18,6 +18,9 @@ IsBusyOf (Some held) = IsBusyNow held.connection
 abbrev pub IsBusy : List ConnectedFace → ℕ → Type 0
 IsBusy faces face = IsBusyOf (find (λ held. held.face == face) faces)
 
--- the node has something for this face, or the connection with this face is busy
-abbrev pub NodeOrBusy : NodeState → List ConnectedFace → ℕ → Type 0
-NodeOrBusy node faces face = NodeHolds node face ⊎ IsBusy faces face
+-- `told` is an answer to the question whether a node and its connections have something for this
+-- face: the node tells so, or the connection with this face is busy
+abbrev pub AnswersOrBusy : NodeState → List ConnectedFace → ℕ → Bool → Type 0
+AnswersOrBusy node faces face told =
+    (answer : Bool) × NodeAnswers node face answer
+    × (IsTrue told ↔ (IsTrue answer ⊎ IsBusy faces face))

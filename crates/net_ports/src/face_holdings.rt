@@ -25,9 +25,10 @@ impl<'a> FaceHoldings<'a> {
 }
 
 impl Holdings for FaceHoldings<'_> {
-    ghost use Rattle.net_ports.specs.Holdings.{NodeOrBusy};
+    ghost use Rattle.net_ports.specs.Holdings.{AnswersOrBusy};
 
-    ghost Holds = { λ holdings face. NodeOrBusy holdings.node.now holdings.faces.now face };
+    ghost Answers = { λ holdings face told.
+        AnswersOrBusy holdings.node.now holdings.faces.now face told };
 
     fn holds(&self, face: u64) -> bool {
         NodeHoldings::of(self.node).holds(face) || is_busy(self.faces, face)

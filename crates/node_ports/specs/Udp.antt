@@ -114,34 +114,34 @@ kept endpoint face datagram = record {
   octets = take FRAME_ROOM datagram;
 }
 
--- What is done with a datagram from this endpoint, as `Meets` states. The node has something for the
--- faces with the property `Holds`. `Packet`: the datagram arrives on the face of the endpoint,
--- truncated to the length of the buffer. `FaceUp`: the datagram waits while a face opens.
+-- What is done with a datagram from this endpoint, as `Meets` states. The node answers as `Answers`
+-- allows whether it has something for a face. `Packet`: the datagram arrives on the face of the
+-- endpoint, truncated to the length of the buffer. `FaceUp`: the datagram waits while a face opens.
 -- `FaceDown`: the datagram waits while the face of a client closes. The client whose face closes
 -- may be this endpoint.
-abbrev pub Brings : (ℕ → Type 0) → UdpState → UdpState → SocketAddr → List ℕ → List ℕ → Arrival
-    → Type 0
-Brings Holds before after endpoint datagram buffer (Packet face now len) =
-    (known : TableState) × Meets before.known known (Udp endpoint) now Holds (Face face)
+abbrev pub Brings : (ℕ → Bool → Type 0) → UdpState → UdpState → SocketAddr → List ℕ → List ℕ
+    → Arrival → Type 0
+Brings Answers before after endpoint datagram buffer (Packet face now len) =
+    (known : TableState) × Meets before.known known (Udp endpoint) now Answers (Face face)
     × (take len buffer ≡ take (length buffer) datagram)
     × (after ≡ record before { known = known; waiting = None; told = now })
-Brings Holds before after endpoint datagram buffer (FaceUp face scope now) =
-    (known : TableState) × Meets before.known known (Udp endpoint) now Holds (Opening face)
+Brings Answers before after endpoint datagram buffer (FaceUp face scope now) =
+    (known : TableState) × Meets before.known known (Udp endpoint) now Answers (Opening face)
     × (scope ≡ Far)
     × (after ≡ record before {
       known = known;
       waiting = Some (kept endpoint (Some face) datagram);
       told = now;
     })
-Brings Holds before after endpoint datagram buffer (FaceDown face now) =
-    (known : TableState) × Meets before.known known (Udp endpoint) now Holds (Closing face)
+Brings Answers before after endpoint datagram buffer (FaceDown face now) =
+    (known : TableState) × Meets before.known known (Udp endpoint) now Answers (Closing face)
     × (after ≡ record before {
       known = known;
       waiting = Some (kept endpoint None datagram);
       told = now;
     })
-Brings Holds before after endpoint datagram buffer (Tick now) = ⊥
-Brings Holds before after endpoint datagram buffer (NewRules renewal now) = ⊥
+Brings Answers before after endpoint datagram buffer (Tick now) = ⊥
+Brings Answers before after endpoint datagram buffer (NewRules renewal now) = ⊥
 
 -- every peer's face is opened, and no datagram waits
 abbrev pub Listens : UdpState → Type 0
@@ -164,11 +164,11 @@ pub record DropsStrangers (before after : UdpState) : Type 0 where
 -- Every peer's face was opened, and no datagram waited. A datagram from an accepted endpoint was
 -- received into the start of the buffer and is handled (`Brings`). Datagrams from endpoints that
 -- are not accepted may have been dropped before.
-abbrev pub GivesReceived : (ℕ → Type 0) → UdpState → UdpState → List ℕ → Arrival → Type 0
-GivesReceived Holds before after buffer arrival =
+abbrev pub GivesReceived : (ℕ → Bool → Type 0) → UdpState → UdpState → List ℕ → Arrival → Type 0
+GivesReceived Answers before after buffer arrival =
     Listens before × ((mid : UdpState) × (endpoint : SocketAddr) × (len : ℕ)
     × DropsStrangers before mid × IsAccepted mid endpoint
-    × Brings Holds mid after endpoint (take len buffer) buffer arrival)
+    × Brings Answers mid after endpoint (take len buffer) buffer arrival)
 
 -- Every peer's face was opened, no datagram waited, and receiving failed. The failure was counted.
 -- Datagrams from endpoints that are not accepted may have been dropped before.
@@ -179,17 +179,17 @@ FailsReceiving before after =
 
 -- every peer's face was opened, and the datagram that waited while a face closed is handled
 -- (`Brings`)
-abbrev pub BringsAfterClosing : (ℕ → Type 0) → UdpState → UdpState → List ℕ → Arrival → Type 0
-BringsAfterClosing Holds before after buffer arrival =
+abbrev pub BringsAfterClosing : (ℕ → Bool → Type 0) → UdpState → UdpState → List ℕ → Arrival → Type 0
+BringsAfterClosing Answers before after buffer arrival =
     (endpoint : SocketAddr) × (octets : List ℕ) × HasOpened before
     × (before.waiting ≡ Some (record { endpoint = endpoint; face = None; octets = octets }))
-    × Brings Holds before after endpoint octets buffer arrival
+    × Brings Answers before after endpoint octets buffer arrival
 
 -- The ports return this arrival, and `after` is their state afterwards. The arrival opens the face
 -- of a peer, or is due to a datagram that waited or was received.
-abbrev pub UdpGives : (ℕ → Type 0) → UdpState → UdpState → List ℕ → Arrival → Type 0
-UdpGives Holds before after buffer arrival =
+abbrev pub UdpGives : (ℕ → Bool → Type 0) → UdpState → UdpState → List ℕ → Arrival → Type 0
+UdpGives Answers before after buffer arrival =
     OpensPeer before after arrival
     ⊎ (GivesWaiting before after buffer arrival
-    ⊎ (BringsAfterClosing Holds before after buffer arrival
-    ⊎ GivesReceived Holds before after buffer arrival))
+    ⊎ (BringsAfterClosing Answers before after buffer arrival
+    ⊎ GivesReceived Answers before after buffer arrival))

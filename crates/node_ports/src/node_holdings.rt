@@ -21,9 +21,9 @@ impl<'a> NodeHoldings<'a> {
 }
 
 impl Holdings for NodeHoldings<'_> {
-    ghost use Rattle.node_ports.specs.Holdings.{NodeHolds};
+    ghost use Rattle.node_ports.specs.Holdings.{NodeAnswers};
 
-    ghost Holds = { λ holdings face. NodeHolds holdings.node.now face };
+    ghost Answers = { λ holdings face told. NodeAnswers holdings.node.now face told };
 
     fn holds(&self, face: u64) -> bool {
         self.node.holds(face)

@@ -6,7 +6,7 @@ ghost use Rattle.node_ports.specs.Endpoints.{AreLocalhostAt, IsLocalhostAt};
 ghost use Rattle.face_table.specs.Clients.{IsNoClient, MayHear};
 ghost use Rattle.face_table.specs.Table.{Leaves, Meets, TableState, endpoint_at, link_at, with_clients};
 ghost use Rattle.face_table.specs.declared.clients.Client.{Client};
-ghost use Rattle.node_ports.specs.Holdings.{NodeHolds};
+ghost use Rattle.node_ports.specs.Holdings.{NodeAnswers};
 ghost use Rattle.node_ports.specs.Ports.{Arrival, LiesWithin, arrived};
 ghost use Rattle.node_ports.specs.Step.{Got, count_after, failures_in, one_more, step_of};
 ghost use Rattle.node_ports.specs.Udp.{Brings, DropsStrangers, FailsReceiving, GivesWaiting, BringsAfterClosing, HasOpened, IsAccepted, Listens, OpensPeer, UdpGives, bound_to, closes_after, kept, waiting_at};
@@ -255,7 +255,7 @@ impl<M: Moments> UdpPorts<M> {
     /// `holdings` is what the node has for its faces. Returns the present time and the decision.
     pub fn meet<H: Holdings>(&mut self, link: Link, holdings: &H) -> (u64, Met)
         ensures { (known : TableState)
-            × Meets self.old.known known link result.0 (H.Holds holdings.now) result.1
+            × Meets self.old.known known link result.0 (H.Answers holdings.now) result.1
             × (self.new ≡ record self.old { known = known; told = result.0 }) }
     {
         let now = self.now();
@@ -360,7 +360,7 @@ impl<M: Moments> UdpPorts<M> {
         requires waiting { (octets : List ℕ) × (self.old.waiting
             ≡ Some (record { endpoint = endpoint; face = None; octets = octets })) }
         ensures fits { LiesWithin (length buffer.new) result }
-        ensures gives { BringsAfterClosing (H.Holds holdings.now) self.old self.new buffer.new result }
+        ensures gives { BringsAfterClosing (H.Answers holdings.now) self.old self.new buffer.new result }
     {
         let now = self.now();
         match self.known.meet(Link::Udp(endpoint), now, holdings) {
@@ -426,7 +426,7 @@ impl<M: Moments> UdpPorts<M> {
         requires listens { Listens self.old }
         requires fits { len ≤ length buffer.now }
         ensures fits { LiesWithin (length buffer.now) result }
-        ensures brings { Brings (H.Holds holdings.now) self.old self.new endpoint
+        ensures brings { Brings (H.Answers holdings.now) self.old self.new endpoint
             (take len buffer.now) buffer.now result }
     {
         let now = self.now();
@@ -480,7 +480,7 @@ impl<M: Moments> UdpPorts<M> {
     ) -> Option<Arrival>
         requires { Listens self.old }
         ensures fits { IfSome result (LiesWithin (length buffer.new)) }
-        ensures gives { IfSome result (UdpGives (H.Holds holdings.now) self.old self.new buffer.new) }
+        ensures gives { IfSome result (UdpGives (H.Answers holdings.now) self.old self.new buffer.new) }
         ensures none { result ≡ None → DropsStrangers self.old self.new }
         ensures works { self.new.failures ≡ self.old.failures }
     {
@@ -521,7 +521,7 @@ impl<M: Moments> UdpPorts<M> {
         is_brief: bool,
     ) -> Option<Arrival>
         ensures fits { IfSome result (LiesWithin (length buffer.new)) }
-        ensures gives { IfSome result (UdpGives (H.Holds holdings.now) self.old self.new buffer.new) }
+        ensures gives { IfSome result (UdpGives (H.Answers holdings.now) self.old self.new buffer.new) }
         ensures none { result ≡ None → Listens self.old × DropsStrangers self.old self.new }
         ensures works { self.new.failures ≡ self.old.failures }
     {
@@ -565,7 +565,7 @@ impl<M: Moments> Ports for UdpPorts<M> {
         ensures came { IfOk result (λ arrival. self.new.failures ≡ count_after self.old.failures
             (failures_in (step_of (length buffer.new) arrival buffer.new ∷ []))) }
         ensures gives { IfOk result (λ given. (arrival : Arrival) × (given ≡ Some arrival)
-            × UdpGives (NodeHolds node.now) self.old self.new buffer.new arrival) }
+            × UdpGives (NodeAnswers node.now) self.old self.new buffer.new arrival) }
         ensures failed { OnErr result (FailsReceiving self.old self.new) }
     {
         match self.take(&NodeHoldings::of(node), buffer, false) {
@@ -578,7 +578,7 @@ impl<M: Moments> Ports for UdpPorts<M> {
         ensures fits { IfSome result (LiesWithin (length buffer.new)) }
         ensures came { IfSome result (λ arrival. self.new.failures ≡ count_after self.old.failures
             (failures_in (Got (length buffer.new) (arrived arrival buffer.new) ∷ []))) }
-        ensures gives { IfSome result (UdpGives (NodeHolds node.now) self.old self.new buffer.new) }
+        ensures gives { IfSome result (UdpGives (NodeAnswers node.now) self.old self.new buffer.new) }
         ensures rests { result ≡ None → self.new.failures ≡ self.old.failures }
         ensures none { result ≡ None → Listens self.old × DropsStrangers self.old self.new }
     {

@@ -388,9 +388,9 @@ fn udp_port_taken(rt: HostRuntime) {
 struct Everything;
 
 impl Holdings for Everything {
-    ghost use Rattle.std.specs.Prelude.{⊤};
+    ghost use Rattle.std.specs.Prelude.{◌≡◌, true};
 
-    ghost Holds = { λ node face. ⊤ };
+    ghost Answers = { λ node face told. told ≡ true };
 
     fn holds(&self, _face: u64) -> bool {
         true

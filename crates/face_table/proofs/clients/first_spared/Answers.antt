@@ -1,12 +1,11 @@
 use Rattle.std.proofs.Common.{◌+◌, arith, refl, subst, sym}
-use Rattle.face_table.specs.Clients.{IsSpared}
-use Rattle.face_table.proofs.Spared.{IsFound, IsFound-longer, IsFound-none, IsFound-passed, IsFound-some, IsFound-unlonger}
+use Rattle.face_table.proofs.Spared.{IsFound, IsFound-longer, IsFound-passed, IsFound-unlonger, IsSparedAt, longest_spared, none_spared}
 use Rattle.face_table.proofs.clients.first_spared.Goals as goal
 use Rattle.face_table.proofs.clients.first_spared.Goals.{then-is_spared+then-is_longer, else-is_spared, else-is_spared-via-then-is_spared+else-is_longer, else-is_spared-via-else-is_spared}
 
 pub loop-place-preserved : goal.loop-place-preserved
-loop-place-preserved g c =
-    let Goes = IsSpared c.args.now (g.H.Holdings.Holds c.args.holdings.now) in
+loop-place-preserved c =
+    let Goes = IsSparedAt c.args.now c.args.clients.now c.args.told.now in
     let clients = c.args.clients.now in
     let place = c.loop-place.place in
     let found = c.loop-place.first in
@@ -22,7 +21,7 @@ loop-place-preserved g c =
     ]
 
 pub returns-clause-none : goal.returns-clause-none
-returns-clause-none g c = IsFound-none (IsSpared c.args.now (g.H.Holdings.Holds c.args.holdings.now)) c.args.clients.now c.loop-place.place c.loop-place.first c.loop-place.invariant (omega arith)
+returns-clause-none c = none_spared c.args.now c.args.clients.now c.args.told.now c.requires c.loop-place.place c.loop-place.first c.loop-place.invariant (omega arith)
 
 pub returns-clause-longest : goal.returns-clause-longest
-returns-clause-longest g c = IsFound-some (IsSpared c.args.now (g.H.Holdings.Holds c.args.holdings.now)) c.args.clients.now c.loop-place.place c.loop-place.first c.loop-place.invariant (omega arith) (omega arith)
+returns-clause-longest c = longest_spared c.args.now c.args.clients.now c.args.told.now c.requires c.loop-place.place c.loop-place.first c.loop-place.invariant (omega arith) (omega arith)

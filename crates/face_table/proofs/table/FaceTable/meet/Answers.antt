@@ -12,4 +12,4 @@ returns-in-Some g c =
     let in_time = subst (λ (s : ClientsState). HearsInTime s.idle s.rows heard.0 c.args.link c.args.now) same heard.1 in
     let face = c.face_at-face.ensures longest.0 (ap (λ (s : ClientsState). slice_get s.rows at) same ∙ longest.1.is) in
     let rest = c.remove.ensures ∙ ap (λ (s : ClientsState). record s { rows = remove s.rows at }) (heard.2 ∙ ap (λ (s : ClientsState). record s { rows = heard.0 }) same) in
-    closes_idle _ _ c.self.view_is c.remove.new.self c.args.link c.args.now (g.H.Holdings.Holds c.args.holdings.now) c.face_at-face.result at longest.0 face heard.0 longest.1 longest.2 in_time rest
+    closes_idle _ _ c.self.view_is c.remove.new.self c.args.link c.args.now (g.H.Holdings.Answers c.args.holdings.now) c.face_at-face.result at longest.0 face heard.0 longest.1 longest.2 in_time rest

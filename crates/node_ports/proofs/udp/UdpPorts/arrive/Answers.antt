@@ -11,5 +11,5 @@ pub returns-in-Closing-clause-brings : goal.returns-in-Closing-clause-brings
 returns-in-Closing-clause-brings g c =
     let known = c.meet.new.self in
     let is = c.self.view_is ∙ c.now-now.ensures in
-    let meets = subst (λ (k : TableState). Meets k known (Udp c.args.endpoint) c.now-now.result (g.H.Holdings.Holds c.args.holdings.now) (Closing c.in-Closing.face)) (ap (λ (u : UdpState). u.known) is) (subst (λ (m : Met). Meets c.self.inside.known known (Udp c.args.endpoint) c.now-now.result (g.H.Holdings.Holds c.args.holdings.now) m) c.in-Closing.is c.meet.ensures) in
+    let meets = subst (λ (k : TableState). Meets k known (Udp c.args.endpoint) c.now-now.result (g.H.Holdings.Answers c.args.holdings.now) (Closing c.in-Closing.face)) (ap (λ (u : UdpState). u.known) is) (subst (λ (m : Met). Meets c.self.inside.known known (Udp c.args.endpoint) c.now-now.result (g.H.Holdings.Answers c.args.holdings.now) m) c.in-Closing.is c.meet.ensures) in
     (known, meets, c.keep-in-Closing.ensures ∙ ap (λ (u : UdpState). record u { known = known; waiting = Some (kept c.args.endpoint None (take c.args.len c.args.buffer.now)) }) is)

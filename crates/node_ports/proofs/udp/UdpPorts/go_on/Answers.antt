@@ -18,7 +18,7 @@ returns-in-Opening-clause-gives g c =
     let is = c.self.view_is ∙ c.now-now.ensures in
     let same : kept_octets ≡ waits.0 = octets_wait c.self.inside.waiting kept_octets (record { endpoint = c.args.endpoint; face = None; octets = waits.0 }) (ap (λ (u : UdpState). u.waiting) is ∙ waits.1) in
     let whole : kept_octets ≡ take FRAME_ROOM waits.0 = sym (cut_once c.self.inside.len c.self.inside.octets c.self.invariant.1) ∙ ap (take FRAME_ROOM) same in
-    let meets = subst (λ (k : TableState). Meets k known (Udp c.args.endpoint) c.now-now.result (g.H.Holdings.Holds c.args.holdings.now) (Opening face)) (ap (λ (u : UdpState). u.known) is) (subst (λ (m : Met). Meets c.self.inside.known known (Udp c.args.endpoint) c.now-now.result (g.H.Holdings.Holds c.args.holdings.now) m) c.in-Opening.is c.meet.ensures) in
+    let meets = subst (λ (k : TableState). Meets k known (Udp c.args.endpoint) c.now-now.result (g.H.Holdings.Answers c.args.holdings.now) (Opening face)) (ap (λ (u : UdpState). u.known) is) (subst (λ (m : Met). Meets c.self.inside.known known (Udp c.args.endpoint) c.now-now.result (g.H.Holdings.Answers c.args.holdings.now) m) c.in-Opening.is c.meet.ensures) in
     let waiting : List ℕ → Option Datagram = λ o. Some (record { endpoint = c.args.endpoint; face = Some face; octets = o }) in
     rw c.far_face.ensures (
       c.args.endpoint,
@@ -43,7 +43,7 @@ returns-in-Closing-clause-gives g c =
     let is = c.self.view_is ∙ c.now-now.ensures in
     let same : kept_octets ≡ waits.0 = octets_wait c.self.inside.waiting kept_octets (record { endpoint = c.args.endpoint; face = None; octets = waits.0 }) (ap (λ (u : UdpState). u.waiting) is ∙ waits.1) in
     let whole : waits.0 ≡ take FRAME_ROOM waits.0 = sym same ∙ sym (cut_once c.self.inside.len c.self.inside.octets c.self.invariant.1) ∙ ap (take FRAME_ROOM) same in
-    let meets = subst (λ (k : TableState). Meets k known (Udp c.args.endpoint) c.now-now.result (g.H.Holdings.Holds c.args.holdings.now) (Closing face)) (ap (λ (u : UdpState). u.known) is) (subst (λ (m : Met). Meets c.self.inside.known known (Udp c.args.endpoint) c.now-now.result (g.H.Holdings.Holds c.args.holdings.now) m) c.in-Closing.is c.meet.ensures) in
+    let meets = subst (λ (k : TableState). Meets k known (Udp c.args.endpoint) c.now-now.result (g.H.Holdings.Answers c.args.holdings.now) (Closing face)) (ap (λ (u : UdpState). u.known) is) (subst (λ (m : Met). Meets c.self.inside.known known (Udp c.args.endpoint) c.now-now.result (g.H.Holdings.Answers c.args.holdings.now) m) c.in-Closing.is c.meet.ensures) in
     let waiting : List ℕ → Option Datagram = λ o. Some (record { endpoint = c.args.endpoint; face = None; octets = o }) in (
       c.args.endpoint,
       waits.0,
