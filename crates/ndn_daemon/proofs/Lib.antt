@@ -1,4 +1,5 @@
 pub mod Spelling
+pub mod Configurations
 pub mod Endpoints
 pub mod Peers
 pub mod Origins

@@ -2,7 +2,7 @@
 ghost use Rattle.std.specs.Prelude.{◌≡◌, ◌≤◌, IfOk, IfSome, MatchResult, Ok, length};
 ghost use Rattle.node_config.specs.File.{FileOf};
 ghost use Rattle.node_config.specs.Plain.{plain_config};
-ghost use Rattle.ndn_daemon.specs.Configuration.{AreConfigured, IsConfigFileFault, level_of};
+ghost use Rattle.ndn_daemon.specs.Configuration.{AreConfigured, IsConfigFault, IsConfigFileFault, level_of};
 
 use crate::fault::Fault;
 use crate::files::unread_config;
@@ -34,6 +34,18 @@ pub fn read_configuration<R: AllocGlobal + Files>(
     options_of(rt.alloc(), folder_of(path), config)
 }
 
+/// Reads the octets of a configuration file.
+fn read_config(alloc: Global, octets: &[u8]) -> Result<Config, Fault>
+    ensures read { MatchResult result (λ config. FileOf octets.now (Ok (plain_config config)))
+        (IsConfigFault octets.now) }
+    ensures few { IfOk result (λ config. length config.peers.items ≤ MAX_FACES) }
+{
+    match Config::read(alloc, octets) {
+        Ok(config) => Ok(config),
+        Err(fault) => Err(Fault::Config(fault)),
+    }
+}
+
 /// Reads an open configuration file. `path` is the path of the file. A file of more than 65,536
 /// octets has a TooLarge fault at line 0, even if it is not UTF-8.
 pub fn read_config_file<R: Read + Drop>(alloc: Global, path: &str, file: R) -> Result<Config, Fault>
@@ -44,7 +56,10 @@ pub fn read_config_file<R: Read + Drop>(alloc: Global, path: &str, file: R) -> R
     ensures few { IfOk result (λ config. length config.peers.items ≤ MAX_FACES) }
 {
     match read_within(alloc, file, MAX_CONFIG_FILE) {
-        Ok(Some(octets)) => Config::read(alloc, &octets).map_err(Fault::Config),
+        Ok(Some(octets)) => {
+            let config = read_config(alloc, &octets)?;
+            Ok(config)
+        }
         Ok(None) => Err(Fault::Config(ConfigFault {
             line: 0,
             kind: ConfigFaultKind::TooLarge,
