@@ -1,4 +1,4 @@
-use Rattle.std.proofs.Common.{codes, ◌∙◌}
+use Rattle.std.proofs.Common.{Global, codes, ◌∙◌}
 use Rattle.clap.specs.Words.{found_of}
 use Rattle.clap.proofs.WalkLemmas.{raw_values-rows}
 use Rattle.ndn_daemon.proofs.Origins.{no_origins}
@@ -12,4 +12,4 @@ returns-in-Some c =
 pub returns-in-None : goal.returns-in-None
 returns-in-None c =
     let e = c.in-None.ensures ∙ raw_values-rows (found_of c.args.found.now) (codes "origin") in
-    rw (← e, c.new.ensures.items) (no_origins _)
+    rw (← e, c.new.ensures.items) (no_origins Global)
