@@ -127,7 +127,7 @@ fn heads_of_requests(rt: HostRuntime) {
 /// Returns the head that has an Origin and so many octets.
 fn head_of(alloc: Global, size: usize) -> Option<String> {
     let mut text = octets_of(alloc, "GET / HTTP/1.1|Origin: http://localhost|X: ")?;
-    while text.len() + 4 < size {
+    for _ in text.len().saturating_add(4)..size {
         text.push('x').ok()?;
     }
     text.push_str("\r\n\r\n").ok()?;
