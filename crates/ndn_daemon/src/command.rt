@@ -387,15 +387,13 @@ fn udp_command<'a>(alloc: Global) -> Result<Command<'a>, AllocError> {
             "ENDPOINT",
             "Also listens for WebSocket connections of web pages; give --origin too",
         ))?
-        .arg(
-            option(
-                alloc,
-                "origin",
-                "ORIGIN",
-                "A web page's origin that may connect over WebSocket; may be given 16 times",
-            )
-            .action(ArgAction::Append),
-        )?;
+        .arg(option(
+            alloc,
+            "origin",
+            "ORIGIN",
+            "A web page's origin that may connect over WebSocket; may be given 16 times",
+        )
+        .action(ArgAction::Append))?;
     with_node(alloc, command)?.arg(peers(alloc))
 }
 

@@ -231,9 +231,8 @@ pub fn wake(handshakes: &mut [Handshake], number: u64) {
 
 /// Returns whether some handshake may go on.
 pub fn may_go_on(handshakes: &[Handshake]) -> bool {
-    handshakes
-        .iter()
-        .any(|handshake| handshake.is_ready || matches!(handshake.stage, Stage::Done(_)))
+    handshakes.iter().any(|handshake| handshake.is_ready
+        || matches!(handshake.stage, Stage::Done(_)))
 }
 
 /// Ends the handshakes that have gone on for `limit` milliseconds at the time `now`.

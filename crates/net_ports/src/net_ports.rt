@@ -346,13 +346,11 @@ impl<M: Moments> NetPorts<M> {
     {
         self.given = 0;
         let limit = if self.is_ready() { 0 } else { limit };
-        let waited = self
-            .sockets
-            .wait(
-                Duration::from_millis(limit),
-                &mut self.faces,
-                &mut self.handshakes,
-            );
+        let waited = self.sockets.wait(
+            Duration::from_millis(limit),
+            &mut self.faces,
+            &mut self.handshakes,
+        );
         self.look();
         waited.is_ok()
     }
@@ -373,9 +371,7 @@ impl<M: Moments> NetPorts<M> {
 
     /// Returns whether some source may have something.
     fn is_ready(&self) -> bool {
-        self.sockets.is_ready()
-            || may_go_on(&self.faces)
-            || handshakes::may_go_on(&self.handshakes)
+        self.sockets.is_ready() || may_go_on(&self.faces) || handshakes::may_go_on(&self.handshakes)
     }
 
     /// From time to time, counts all listening sockets as ready, and ends the connections that are

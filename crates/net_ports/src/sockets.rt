@@ -4,13 +4,12 @@ ghost use Rattle.face_table.specs.declared.link.Link.{Link};
 ghost use Rattle.net_ports.specs.Links.{IsOverTcp, IsOverWebSocket};
 
 use crate::faces::{ConnectedFace, wake};
-use crate::handshakes;
 use crate::handshakes::Handshake;
-use crate::unix_path;
 use crate::wire::Wire;
+use crate::{handshakes, unix_path};
 use face_table::Link;
-use mio::net::{TcpListener, TcpStream, UnixListener};
 use mio::event::Source;
+use mio::net::{TcpListener, TcpStream, UnixListener};
 use mio::unix::SourceFd;
 use mio::{Events, Interest, Poll, Token};
 use std::alloc::Global;

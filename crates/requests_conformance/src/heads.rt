@@ -5,7 +5,11 @@ use test_support::{first_misshown, typed};
 use websocket_requests::{MAX_HEAD, Progress, RequestFault, check};
 
 /// The origins that are listed.
-const LISTED: [&str; 3] = ["http://a.example", "https://app.example:8443", "http://localhost"];
+const LISTED: [&str; 3] = [
+    "http://a.example",
+    "https://app.example:8443",
+    "http://localhost",
+];
 
 /// Each row has the octets that have come, and what is decided on them. `|` stands for CR LF, `␉`
 /// for a tab, and `␍` and `␊` for CR and LF alone.

@@ -1,4 +1,4 @@
-use Rattle.std.proofs.Common.{◌≡◌, ℕ, Bool, true, false, List, map, arith, sym, ◌∙◌}
+use Rattle.std.proofs.Common.{arith, sym, ◌∙◌}
 use Rattle.std.proofs.lemmas.List.{length-map}
 use Rattle.websocket_requests.specs.Origin.{is_origin}
 use Rattle.ndn_daemon.proofs.Origins.{all-map, not_both}
@@ -9,7 +9,7 @@ pub returns-then-texts-gt-MAX_ORIGINS : goal.returns-then-texts-gt-MAX_ORIGINS
 returns-then-texts-gt-MAX_ORIGINS c = λ x are. elim c.then-texts-gt-MAX_ORIGINS.branch [
   | then-texts-gt-MAX_ORIGINS-via-then-texts-gt-MAX_ORIGINS w ↦ absurd (omega (arith, w.if-texts-gt-MAX_ORIGINS.true, are.1, length-map c.args.texts.now (λ text. text.now)))
   | then-texts-gt-MAX_ORIGINS-via-else-texts-gt-MAX_ORIGINS+then-not-are_origins w ↦
-    not_both (sym w.if-not-are_origins.true ∙ w.are_origins.ensures ∙ all-map is_origin (λ text. text.now) c.args.texts.now ∙ are.2)
+      not_both (sym w.if-not-are_origins.true ∙ w.are_origins.ensures ∙ all-map is_origin (λ text. text.now) c.args.texts.now ∙ are.2)
 ]
 
 pub returns : goal.returns
