@@ -140,7 +140,9 @@ Meets before after link now Answers (Face face) =
 Meets before after link now Answers (Opening face) =
     NoneIsIdle before now × IsNewcomer before link
     × ((HasPlace before link × OpensNew before after link now face)
-    ⊎ (¬ (HasPlace before link) × NoneMayGiveWay before.clients.idle now Answers before.clients.rows × OpensNone before after face))
+    ⊎ (¬ (HasPlace before link)
+    × NoneMayGiveWay before.clients.idle now Answers before.clients.rows
+    × OpensNone before after face))
 Meets before after link now Answers (Closing face) =
     ((place : ℕ) × (client : Client) × (rows : List Client)
     × IsSilentLongest before.clients.rows place client × IsIdle before.clients.idle now client

@@ -179,7 +179,8 @@ FailsReceiving before after =
 
 -- every peer's face was opened, and the datagram that waited while a face closed is handled
 -- (`Brings`)
-abbrev pub BringsAfterClosing : (ℕ → Bool → Type 0) → UdpState → UdpState → List ℕ → Arrival → Type 0
+abbrev pub BringsAfterClosing : (ℕ → Bool → Type 0) → UdpState → UdpState → List ℕ → Arrival
+    → Type 0
 BringsAfterClosing Answers before after buffer arrival =
     (endpoint : SocketAddr) × (octets : List ℕ) × HasOpened before
     × (before.waiting ≡ Some (record { endpoint = endpoint; face = None; octets = octets }))

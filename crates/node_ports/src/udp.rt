@@ -217,9 +217,9 @@ impl<M: Moments> UdpPorts<M> {
     }
 
     /// From now on, no call waits for a datagram, and no send waits for the socket: `next` fails,
-    /// and `next_soon` returns `None`, if no datagram has come. Clients with Far faces leave `spare`
-    /// places, of the 64, to peers and to Local links. For ports that wait for other sockets too.
-    /// Returns false if the system refuses.
+    /// and `next_soon` returns `None`, if no datagram has come. Clients with Far faces leave
+    /// `spare` places, of the 64, to peers and to Local links. For ports that wait for other
+    /// sockets too. Returns false if the system refuses.
     pub fn share_with_connections(&mut self, spare: usize) -> bool
         ensures { self.new ≡ record self.old { known = record self.old.known { spare = spare } } }
     {
@@ -360,7 +360,8 @@ impl<M: Moments> UdpPorts<M> {
         requires waiting { (octets : List ℕ) × (self.old.waiting
             ≡ Some (record { endpoint = endpoint; face = None; octets = octets })) }
         ensures fits { LiesWithin (length buffer.new) result }
-        ensures gives { BringsAfterClosing (H.Answers holdings.now) self.old self.new buffer.new result }
+        ensures gives { BringsAfterClosing (H.Answers holdings.now) self.old self.new
+            buffer.new result }
     {
         let now = self.now();
         match self.known.meet(Link::Udp(endpoint), now, holdings) {
@@ -480,7 +481,8 @@ impl<M: Moments> UdpPorts<M> {
     ) -> Option<Arrival>
         requires { Listens self.old }
         ensures fits { IfSome result (LiesWithin (length buffer.new)) }
-        ensures gives { IfSome result (UdpGives (H.Answers holdings.now) self.old self.new buffer.new) }
+        ensures gives { IfSome result
+            (UdpGives (H.Answers holdings.now) self.old self.new buffer.new) }
         ensures none { result ≡ None → DropsStrangers self.old self.new }
         ensures works { self.new.failures ≡ self.old.failures }
     {
@@ -521,7 +523,8 @@ impl<M: Moments> UdpPorts<M> {
         is_brief: bool,
     ) -> Option<Arrival>
         ensures fits { IfSome result (LiesWithin (length buffer.new)) }
-        ensures gives { IfSome result (UdpGives (H.Answers holdings.now) self.old self.new buffer.new) }
+        ensures gives { IfSome result
+            (UdpGives (H.Answers holdings.now) self.old self.new buffer.new) }
         ensures none { result ≡ None → Listens self.old × DropsStrangers self.old self.new }
         ensures works { self.new.failures ≡ self.old.failures }
     {
@@ -578,7 +581,8 @@ impl<M: Moments> Ports for UdpPorts<M> {
         ensures fits { IfSome result (LiesWithin (length buffer.new)) }
         ensures came { IfSome result (λ arrival. self.new.failures ≡ count_after self.old.failures
             (failures_in (Got (length buffer.new) (arrived arrival buffer.new) ∷ []))) }
-        ensures gives { IfSome result (UdpGives (NodeAnswers node.now) self.old self.new buffer.new) }
+        ensures gives { IfSome result
+            (UdpGives (NodeAnswers node.now) self.old self.new buffer.new) }
         ensures rests { result ≡ None → self.new.failures ≡ self.old.failures }
         ensures none { result ≡ None → Listens self.old × DropsStrangers self.old self.new }
     {
