@@ -66,6 +66,9 @@ impl PacketSocket {
 
 impl Read for PacketSocket {
     fn read(&mut self, buf: &mut [u8]) -> io::Result<usize> {
+        // What waits below the queue leaves as soon as the socket takes it, also if no further
+        // packet is sent. If the socket has failed, the read says so.
+        let _flushed = self.socket.flush();
         match self.socket.read() {
             Ok(Message::Binary(octets)) => self.give(&octets, buf),
             Ok(Message::Text(_)) => Err(self.refuse(CloseCode::Unsupported)),
