@@ -517,7 +517,8 @@ struct Pace {
 }
 
 /// Lets 200 clients send a packet, one after the other, at this pace. Returns the number of clients
-/// that are answered: within two turns while places are left, and within three after that.
+/// that are answered: within two turns while places are left, and within three after that. Each
+/// client keeps its socket to the end, so that no two have the same port.
 fn answered_at(
     rt: &(impl AllocGlobal + Net),
     node: &mut Node,
@@ -527,11 +528,18 @@ fn answered_at(
     pace: Pace,
 ) -> u64 {
     let mut answered = 0u64;
-    for client in 0..200u64 {
-        moment.set(client.saturating_mul(pace.between));
-        let turns = if client < pace.places { 2 } else { 3 };
-        if answers_client(rt, node, ports, listen, turns) == Some(true) {
+    let mut clients = Vec::new(rt.alloc());
+    for number in 0..200u64 {
+        moment.set(number.saturating_mul(pace.between));
+        let turns = if number < pace.places { 2 } else { 3 };
+        let Some(client) = client_of(rt, listen, "INTEREST") else {
+            return answered;
+        };
+        if passes(rt.alloc(), node, ports, turns) && hears(rt.alloc(), &client, "NO_ROUTE") {
             answered = answered.saturating_add(1);
+        }
+        if clients.push(client).is_err() {
+            return answered;
         }
     }
     answered
